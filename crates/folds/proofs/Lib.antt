@@ -1,0 +1,4 @@
+pub mod Tests
+pub mod Laws
+pub mod Lists
+pub mod Quorum

@@ -1,0 +1,74 @@
+-- Document 01, "Examples": P1 to P14 and the three sums hold, each by computation.
+-- Assumes nothing.
+use mathlib.Core.List.{List, [], _∷_, map}
+use mathlib.Core.Path.{_≡_, refl}
+use Rattle.rules.specs.Record.{first, sumOf}
+use Rattle.rules.specs.Tables.{unsummed, p1, p2, p3, p4, p5, p6, p7, p8, p9, p10, p11, p12, p13, p14}
+use Rattle.rules.specs.Examples.{Hold, answer, a1, a2, a3, a4, a5, a6, a7, a8, a9, a10, a11, a12, a13, a14}
+use Rattle.rules.specs.Open.{rules-open}
+
+ex1 : answer p1 ≡ a1
+unfolding rules-open p1
+ex1 = refl
+
+ex2 : answer p2 ≡ a2
+unfolding rules-open p2
+ex2 = refl
+
+ex3 : answer p3 ≡ a3
+unfolding rules-open p3
+ex3 = refl
+
+ex4 : answer p4 ≡ a4
+unfolding rules-open p4
+ex4 = refl
+
+ex5 : answer p5 ≡ a5
+unfolding rules-open p5
+ex5 = refl
+
+ex6 : answer p6 ≡ a6
+unfolding rules-open p6
+ex6 = refl
+
+ex7 : answer p7 ≡ a7
+unfolding rules-open p7
+ex7 = refl
+
+ex8 : answer p8 ≡ a8
+unfolding rules-open p8
+ex8 = refl
+
+ex9 : answer p9 ≡ a9
+unfolding rules-open p9
+ex9 = refl
+
+ex10 : answer p10 ≡ a10
+unfolding rules-open p10
+ex10 = refl
+
+ex11 : answer p11 ≡ a11
+unfolding rules-open p11
+ex11 = refl
+
+ex12 : answer p12 ≡ a12
+unfolding rules-open p12
+ex12 = refl
+
+ex13 : answer p13 ≡ a13
+unfolding rules-open p13
+ex13 = refl
+
+ex14 : answer p14 ≡ a14
+unfolding rules-open p14
+ex14 = refl
+
+sums : map (sumOf first) (unsummed 1 0 1 0 0 [] ∷ unsummed 2 3 1 5 0 (1 ∷ 1 ∷ 1 ∷ 1 ∷ []) ∷ unsummed 1 2 65535 65535 0 [] ∷ []) ≡ 2 ∷ 15 ∷ 1 ∷ []
+unfolding rules-open unsummed
+sums = refl
+
+pub examples : Hold
+examples = record {
+  three-sums = sums;
+  fourteen = λ i. ex1 i ∷ ex2 i ∷ ex3 i ∷ ex4 i ∷ ex5 i ∷ ex6 i ∷ ex7 i ∷ ex8 i ∷ ex9 i ∷ ex10 i ∷ ex11 i ∷ ex12 i ∷ ex13 i ∷ ex14 i ∷ [];
+}

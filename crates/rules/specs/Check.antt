@@ -1,0 +1,62 @@
+-- Document 01, "Refusal numbers and their order": the rows 1 to 9, each with a test of its own, and their order.
+-- Assumes nothing.
+use Prim.Native.Nat.{ℕ, zero, suc, pred, _/_, _%_}
+use mathlib.Core.Bool.{Bool, true, false, not, cond}
+use mathlib.Core.List.{List, [], _∷_}
+use lib.Dec.{leb, ltb, eqb}
+use lib.ListN.{length}
+use Rattle.folds.specs.Folds.{_and_, _or_, countTo, anyTo}
+use Rattle.rules.specs.declared.Name.{Name}
+use Rattle.rules.specs.declared.Vertex.{Vertex}
+use Rattle.rules.specs.declared.Refusal.{Refusal}
+use Rattle.rules.specs.declared.Refusal.the-variants.{Authors, Length, Records, Sum, Fields, Rising, Entries, Earlier, Round}
+use Rattle.rules.specs.declared.Checked.{Checked}
+use Rattle.rules.specs.declared.Checked.the-variants.{Passed, Refused}
+use Rattle.rules.specs.Authors.{isCount, quorum}
+use Rattle.rules.specs.Record.{Edition, recordAt, sumOf, records, vertices, at, nameOf, refers, entryName, below, find}
+use Rattle.rules.specs.Refusals.{_when_, _then_, eachTo}
+
+-- 4: the sum differs
+unfoldable pub sumDiffers : Edition → List ℕ → List Vertex → ℕ → Bool
+sumDiffers E t vs p = not (eqb (sumOf E (recordAt E t p)) (at vs p .sum))
+
+-- 5: padding not zero, or round 0, or mark 0, or author n or more
+unfoldable pub fieldsWrong : ℕ → Vertex → Bool
+fieldsWrong n v = not (eqb (v .padding) 0) or eqb (v .round) 0 or eqb (v .mark) 0 or leb n (v .author)
+
+-- 6: position above 0 and the name is not above the one before it
+unfoldable pub notAbove : List Vertex → ℕ → Bool
+notAbove vs p = ltb 0 p and not (below (nameOf (at vs (pred p))) (nameOf (at vs p)))
+
+-- 7: round 1 with a non-zero entry; or an entry for author n or more not zero; or round above 1 with fewer than 2f+1 non-zero entries
+unfoldable pub entriesWrong : ℕ → Vertex → Bool
+entriesWrong n v =
+    eqb (v .round) 1 and anyTo (refers v) 31
+    or anyTo (λ i. leb n i and refers v i) 31
+    or ltb 1 (v .round) and ltb (countTo (refers v) 31) (quorum n)
+
+-- 8: some non-zero entry names no record earlier in the table
+unfoldable pub notEarlier : List Vertex → ℕ → Bool
+notEarlier vs p = anyTo (λ i. refers (at vs p) i and leb p (find vs (entryName (at vs p) i))) 31
+
+-- 9: round above 1,400
+unfoldable pub roundAbove : Vertex → Bool
+roundAbove v = ltb 1400 (v .round)
+
+-- Each record is put through 4 to 9 in order.
+unfoldable pub checkRecord : Edition → ℕ → List ℕ → List Vertex → ℕ → Checked
+checkRecord E n t vs p =
+    Sum p when sumDiffers E t vs p
+    then Fields p when fieldsWrong n (at vs p)
+    then Rising p when notAbove vs p
+    then Entries p when entriesWrong n (at vs p)
+    then Earlier p when notEarlier vs p
+    then Round p when roundAbove (at vs p)
+
+-- Checks 1 to 3 come first, in that order. Then records are taken by position from 0.
+unfoldable pub check : Edition → ℕ → List ℕ → Checked
+check E n t =
+    Authors when not (isCount n)
+    then Length when not (eqb (length t % E .size) 0)
+    then Records when ltb 4096 (records E t)
+    then eachTo (checkRecord E n t (vertices E t)) (records E t)

@@ -1,0 +1,15 @@
+pub mod Authors
+pub mod Record
+pub mod Refusals
+pub mod Check
+pub mod Lookup
+pub mod Decision
+pub mod Support
+pub mod History
+pub mod Decide
+pub mod Order
+pub mod Settlement
+pub mod Program
+pub mod Open
+pub mod Tables
+pub mod Examples

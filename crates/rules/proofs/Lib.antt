@@ -1,1 +1,5 @@
+pub mod Names
+pub mod Refusals
+pub mod Records
+pub mod Accepted
 pub mod Examples

@@ -160,6 +160,23 @@ unfolding countTo
 count-mono p q zero h = zero-le
 count-mono p q (suc n) h = omega (arith, bit-mono (p n) (q n) (h n (le-refl (suc n))), count-mono p q n (λ i l. h i (le-step l)))
 
+-- past the last that passes, nothing is counted and nothing is found
+pub count-cut : (p : ℕ → Bool) (n k : ℕ) → ((i : ℕ) → n ≤ i → i < n + k → p i ≡ false) → countTo p (n + k) ≡ countTo p n
+unfolding countTo
+count-cut p n zero h = let e : n + 0 ≡ n = omega arith in rw e
+count-cut p n (suc k) h =
+    let e : n + suc k ≡ suc (n + k) = omega arith in
+    rw (e, h (n + k) (omega arith) (omega arith)) (omega (arith, count-cut p n k (λ i l l′. h i l (omega arith))))
+
+pub any-cut : (p : ℕ → Bool) (n k : ℕ) → ((i : ℕ) → n ≤ i → i < n + k → p i ≡ false) → anyTo p (n + k) ≡ anyTo p n
+any-cut p n k h = by-test (anyTo p n) (λ e. up (any-witness p n e) ∙ sym e) (λ e. any-false p (n + k) (λ i l. below i l e) ∙ sym e)
+  where
+    up : (i : ℕ) × (i < n) × (p i ≡ true) → anyTo p (n + k) ≡ true
+    up (i, l, t) = any-intro p (n + k) i (omega arith) t
+
+    below : (i : ℕ) → i < n + k → anyTo p n ≡ false → p i ≡ false
+    below i l e = by-test (ltb i n) (λ t. any-none p n e i (ltb-true i n t)) (λ t. h i (ltb-false i n t) l)
+
 -- ---- sumTo
 
 pub sum-start : (f : ℕ → ℕ) → sumTo f 0 ≡ 0

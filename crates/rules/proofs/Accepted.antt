@@ -1,0 +1,204 @@
+-- What a table that passes the check obeys: names rise strictly, every reference stands earlier, at least 2f+1 references above round 1,
+-- a name finds its position, and every round below the highest has records of at least 2f+1 authors.
+-- Assumes nothing.
+use Prim.Native.Nat.{ℕ, zero, suc, pred, _+_, _-_, _*_, _/_, _%_, _≤_, _<_}
+use mathlib.Core.Path.{_≡_, refl, sym, ap, _∙_, subst}
+use mathlib.Core.Logic.{_⊎_, inl, inr, ⊎-elim, _≢_}
+use mathlib.Core.Bool.{Bool, true, false, not}
+use mathlib.Core.List.{List, [], _∷_}
+use native.Mathlib.Omega.{arith}
+use native.Mathlib.Nat.{le-refl, eq-or-lt-of-le, le-of-suc-le-suc, not-suc-le-zero}
+use lib.Dec.{leb, ltb, eqb}
+use lib.ListN.{length, getD, List·getD-eq-default}
+use borrow.Author.Tests.{eqb-true, eqb-false, eq-eqb, ne-eqb, leb-true, leb-false, le-leb, ltb-true, ltb-false, lt-ltb}
+use Rattle.folds.specs.Folds.{_and_, _or_, countTo, anyTo}
+use Rattle.folds.specs.Many.{Many}
+use Rattle.folds.proofs.Tests.{by-test, not-both, failed, passed, and-left, and-right, and-true, and-false, or-neither, not-true, not-false, is-not}
+use Rattle.folds.proofs.Laws.{First, first-unique, any-none, count-cut}
+use Rattle.folds.proofs.Quorum.{some-of}
+use Rattle.rules.specs.declared.Name.{Name}
+use Rattle.rules.specs.declared.Vertex.{Vertex}
+use Rattle.rules.specs.declared.Checked.the-variants.{Passed}
+use Rattle.rules.specs.Authors.{isCount, faults, quorum}
+use Rattle.rules.specs.Record.{Edition, recordAt, decode, records, vertices, noVertex, at, entry, refers, entryName, nameOf, sameName, below, find, vertexOf}
+use Rattle.rules.specs.Check.{sumDiffers, fieldsWrong, notAbove, entriesWrong, notEarlier, roundAbove, checkRecord, check}
+use Rattle.rules.specs.Decide.{highest}
+use Rattle.rules.proofs.Names.{same-name, name-same, Below, below-is, below-trans, below-irrefl}
+use Rattle.rules.proofs.Records.{vertices-length, vertices-at, decode-entries, find-first, find-name}
+use Rattle.rules.proofs.Refusals.{when-passed, then-both, each-passed}
+
+-- The record at p passes 5 to 9, and has 31 entries. What check 4 says is of its bytes.
+pub record Fine (n : ℕ) (vs : List Vertex) (p : ℕ) : Type 0 where
+  pub fields : fieldsWrong n (at vs p) ≡ false
+  pub above : notAbove vs p ≡ false
+  pub entries : entriesWrong n (at vs p) ≡ false
+  pub found : notEarlier vs p ≡ false
+  pub width : length (at vs p .refs) ≡ 31
+
+pub record Accepted (n : ℕ) (vs : List Vertex) : Type 0 where
+  pub count : n ≡ 3 * faults n + 1
+  pub few : n ≤ 31
+  pub each : (p : ℕ) → p < length vs → Fine n vs p
+
+record-passed : (E : Edition) (n : ℕ) (t : List ℕ) (p : ℕ) → p < records E t → checkRecord E n t (vertices E t) p ≡ Passed → Fine n (vertices E t) p
+unfolding checkRecord
+record-passed E n t p l e =
+    let e4 = then-both _ _ e in
+    let e5 = then-both _ _ (e4 .1) in
+    let e6 = then-both _ _ (e5 .1) in
+    let e7 = then-both _ _ (e6 .1) in
+    let e8 = then-both _ _ (e7 .1) in
+    record {
+      fields = when-passed _ _ (e5 .0);
+      above = when-passed _ _ (e6 .0);
+      entries = when-passed _ _ (e7 .0);
+      found = when-passed _ _ (e8 .0);
+      width = ap (λ v. length (v .refs)) (vertices-at E t p l) ∙ decode-entries E (recordAt E t p);
+    }
+
+pub accepted : (E : Edition) (n : ℕ) (t : List ℕ) → check E n t ≡ Passed → Accepted n (vertices E t)
+unfolding check isCount
+accepted E n t e =
+    let e1 = then-both _ _ e in
+    let e2 = then-both _ _ (e1 .1) in
+    let e3 = then-both _ _ (e2 .1) in
+    let good = not-false _ (when-passed _ _ (e1 .0)) in
+    let rest = and-right _ _ good in
+    record {
+      count = omega (arith, eqb-true (n % 3) 1 (and-right _ _ rest));
+      few = leb-true n 31 (and-left _ _ rest);
+      each = λ p l. let l′ : p < records E t = rw (← vertices-length E t) l in record-passed E n t p l′ (each-passed _ (records E t) (e3 .1) p l′);
+    }
+
+-- ---- what the tests of one record say
+
+module _ {n : ℕ} {vs : List Vertex} (A : Accepted n vs) where
+  pub round-pos : (p : ℕ) → p < length vs → at vs p .round ≢ 0
+  unfolding fieldsWrong
+  round-pos p l = eqb-false _ _ (or-neither _ _ (or-neither _ _ (A .each p l .fields) .1) .0)
+
+  pub mark-pos : (p : ℕ) → p < length vs → at vs p .mark ≢ 0
+  unfolding fieldsWrong
+  mark-pos p l = eqb-false _ _ (or-neither _ _ (or-neither _ _ (or-neither _ _ (A .each p l .fields) .1) .1) .0)
+
+  pub author-low : (p : ℕ) → p < length vs → at vs p .author < n
+  unfolding fieldsWrong
+  author-low p l = leb-false _ _ (or-neither _ _ (or-neither _ _ (or-neither _ _ (A .each p l .fields) .1) .1) .1)
+
+  -- names rise by one step
+  pub rises : (p : ℕ) → suc p < length vs → Below (nameOf (at vs p)) (nameOf (at vs (suc p)))
+  unfolding notAbove
+  rises p l = below-is _ _ (not-false _ (and-false _ _ (A .each (suc p) l .above) (lt-ltb 0 (suc p) (omega arith))))
+
+  -- a non-zero entry is one of the n
+  pub entry-low : (p i : ℕ) → p < length vs → entry (at vs p) i ≢ 0 → i < n
+  unfolding entriesWrong
+  entry-low p i l nz = by-test (ltb i 31) within (λ t. absurd (nz (List·getD-eq-default (at vs p .refs) 0 (omega (arith, ltb-false i 31 t, A .each p l .width)))))
+    where
+      none : anyTo (λ i. leb n i and refers (at vs p) i) 31 ≡ false
+      none = or-neither _ _ (or-neither _ _ (A .each p l .entries) .1) .0
+
+      within : ltb i 31 ≡ true → i < n
+      within t = leb-false n i (failed _ (λ h. not-both (and-true _ _ h (is-not (ne-eqb _ _ nz))) (any-none _ 31 none i (ltb-true i 31 t))))
+
+  -- it names an earlier record
+  pub earlier : (p i : ℕ) → p < length vs → entry (at vs p) i ≢ 0 → find vs (entryName (at vs p) i) < p
+  unfolding notEarlier
+  earlier p i l nz =
+      let li : i < 31 = omega (arith, entry-low p i l nz, A .few) in
+      leb-false _ _ (and-false _ _ (any-none _ 31 (A .each p l .found) i li) (is-not (ne-eqb _ _ nz)))
+
+  -- there are at least 2f+1 of them above round 1
+  pub enough : (p : ℕ) → p < length vs → 1 < at vs p .round → quorum n ≤ countTo (refers (at vs p)) n
+  unfolding entriesWrong
+  enough p l h =
+      let many : quorum n ≤ countTo (refers (at vs p)) 31 = ltb-false _ _ (and-false _ _ (or-neither _ _ (or-neither _ _ (A .each p l .entries) .1) .1) (lt-ltb _ _ h)) in
+      let width : n + (31 - n) ≡ 31 = omega (arith, A .few) in
+      let same : countTo (refers (at vs p)) 31 ≡ countTo (refers (at vs p)) n = subst (λ k. countTo (refers (at vs p)) k ≡ countTo (refers (at vs p)) n) width (count-cut (refers (at vs p)) n (31 - n) past) in
+      omega (arith, many, same)
+    where
+      past : (i : ℕ) → n ≤ i → i < n + (31 - n) → refers (at vs p) i ≡ false
+      past i l′ l″ = failed _ (λ t. absurd (omega (arith, entry-low p i l (eqb-false _ _ (not-true _ t)))))
+
+  -- in round 1 there is none
+  pub first-round : (p i : ℕ) → p < length vs → at vs p .round ≡ 1 → entry (at vs p) i ≡ 0
+  unfolding entriesWrong
+  first-round p i l e = eqb-true _ _ (passed _ (λ f. not-both (is-not f) (none f)))
+    where
+      none : eqb (entry (at vs p) i) 0 ≡ false → refers (at vs p) i ≡ false
+      none f =
+          let li : i < 31 = omega (arith, entry-low p i l (eqb-false _ _ f), A .few) in
+          any-none _ 31 (and-false _ _ (or-neither _ _ (A .each p l .entries) .0) (eq-eqb _ _ e)) i li
+
+  -- ---- names and positions
+
+  -- names rise strictly
+  pub rising : (p q : ℕ) → p < q → q < length vs → Below (nameOf (at vs p)) (nameOf (at vs q))
+  rising p zero h l = absurd (not-suc-le-zero h)
+  rising p (suc q) h l =
+      ⊎-elim
+      (λ e. subst (λ (k : ℕ). Below (nameOf (at vs k)) (nameOf (at vs (suc q)))) (sym e) (rises q l))
+      (λ h′. below-trans _ _ _ (rising p q h′ (omega arith)) (rises q l))
+      (eq-or-lt-of-le (le-of-suc-le-suc h))
+
+  -- find by name gives the position
+  pub find-at : (p : ℕ) → p < length vs → find vs (nameOf (at vs p)) ≡ p
+  find-at p l = first-unique _ (length vs) _ p (find-first vs (nameOf (at vs p))) (record {
+    within = omega arith;
+    before = λ i h. failed _ (λ t. below-irrefl _ _ (same-name _ _ t) (rising i p h l));
+    hit = λ _. name-same _ _ refl;
+  })
+
+  pub vertexOf-at : (p : ℕ) → p < length vs → vertexOf vs (nameOf (at vs p)) ≡ at vs p
+  unfolding vertexOf
+  vertexOf-at p l = ap (at vs) (find-at p l)
+
+  -- two positions of one name are one
+  pub position-unique : (p q : ℕ) → p < length vs → q < length vs → nameOf (at vs p) ≡ nameOf (at vs q) → p ≡ q
+  position-unique p q lp lq e = sym (find-at p lp) ∙ ap (find vs) e ∙ find-at q lq
+
+  -- ---- rounds
+
+  -- the vertex that a non-zero entry names
+  pub entry-vertex : (p i : ℕ) → p < length vs → entry (at vs p) i ≢ 0 → nameOf (at vs (find vs (entryName (at vs p) i))) ≡ entryName (at vs p) i
+  entry-vertex p i l nz = find-name vs _ (omega (arith, earlier p i l nz))
+
+  -- author a has a vertex in round r
+  abbrev pub Present : ℕ → ℕ → Type 0
+  Present r a = (p : ℕ) × (p < length vs) × (at vs p .round ≡ r) × (at vs p .author ≡ a)
+
+  -- below a vertex of round r + 1 there are records of at least 2f+1 authors
+  pub present : (r p : ℕ) → p < length vs → 0 < r → at vs p .round ≡ r + 1 → Many n (quorum n) (Present r)
+  present r p l pos e = record {
+    who = refers (at vs p);
+    enough = enough p l (omega arith);
+    have = λ i li t. there i (eqb-false _ _ (not-true _ t));
+  }
+    where
+      there : (i : ℕ) → entry (at vs p) i ≢ 0 → Present r i
+      there i nz =
+          let d = earlier p i l nz in
+          let v = entry-vertex p i l nz in
+          let level : pred (at vs p .round) ≡ r = omega (arith, e) in
+          (find vs (entryName (at vs p) i), omega (arith, d), ap (λ x. x .round) v ∙ level, ap (λ x. x .author) v)
+
+  -- there is a vertex in every round from 1 to that of any vertex
+  pub vertex-in : (k r p : ℕ) → p < length vs → 0 < r → at vs p .round ≡ r + k → (q : ℕ) × (q < length vs) × (at vs q .round ≡ r)
+  vertex-in zero r p l pos e = (p, l, omega arith)
+  vertex-in (suc k) r p l pos e =
+      let w = some-of n (quorum n) (Present (r + k)) (omega arith) (present (r + k) p l (omega arith) (omega arith)) in
+      vertex-in k r (w .2 .0) (w .2 .1) pos (w .2 .2)
+
+  -- every round below the highest has records of at least 2f+1 authors
+  pub populated : (r : ℕ) → 0 < r → r < highest vs → Many n (quorum n) (Present r)
+  unfolding highest
+  populated r pos h = by-test (ltb (pred (length vs)) (length vs)) some-record (λ e. absurd (none (ltb-false _ _ e)))
+    where
+      some-record : ltb (pred (length vs)) (length vs) ≡ true → Many n (quorum n) (Present r)
+      some-record e = go (vertex-in (at vs (pred (length vs)) .round - (r + 1)) (r + 1) (pred (length vs)) (ltb-true _ _ e) (omega arith) (omega arith))
+        where
+          go : (q : ℕ) × (q < length vs) × (at vs q .round ≡ r + 1) → Many n (quorum n) (Present r)
+          go (q, lq, eq) = present r q lq pos eq
+
+      none : length vs ≤ pred (length vs) → ⊥
+      none l = let zero : at vs (pred (length vs)) .round ≡ 0 = ap (λ (v : Vertex). v .round) (List·getD-eq-default vs noVertex l) in omega arith

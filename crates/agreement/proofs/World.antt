@@ -83,7 +83,7 @@ module _ (W : World) where
     pub supports : references (W .vertex (entryName (W .vertex w) i)) b ≡ true
 
   -- w certifies b.
-  pub record Certifies (w b : Name) : Type 0 where
+  pub record Certificate (w b : Name) : Type 0 where
     pub is-in : W .In w
     pub two-up : w .round ≡ b .round + 2
     pub supported : Many (W .n) (quorum (W .n)) (Supported w b)
@@ -100,13 +100,13 @@ module _ (W : World) where
   pub record CertifiedBy (b : Name) (i : ℕ) : Type 0 where
     pub who : Name
     pub by : who .author ≡ i
-    pub certifies : Certifies who b
+    pub certifies : Certificate who b
 
   -- b is certified by some vertex in the history of a.
   pub record CertifiedIn (a b : Name) : Type 0 where
     pub who : Name
     pub reached : Reached a who
-    pub certifies : Certifies who b
+    pub certifies : Certificate who b
 
   -- the round of what entry i of x names
   entry-round : (x : Name) (r : ℕ) → W .In x → x .round ≡ r + 1 → pred (W .vertex x .round) ≡ r
@@ -119,7 +119,7 @@ module _ (W : World) where
 
   -- Certificate against certificate: two vertices of one round and author that are both certified are one vertex. The two quorums of
   -- supporters share an author with one vertex in their round, and that one has one entry for the leader.
-  pub certified-same : (w w′ b b′ : Name) → Certifies w b → Certifies w′ b′ → b .round ≡ b′ .round → b .author ≡ b′ .author → b ≡ b′
+  pub certified-same : (w w′ b b′ : Name) → Certificate w b → Certificate w′ b′ → b .round ≡ b′ .round → b .author ≡ b′ .author → b ≡ b′
   certified-same w w′ b b′ c c′ er ea =
       go (meet (W .n) (faults (W .n)) (Supported w b) (Supported w′ b′) (W .faulty) (W .count) (W .few) (c .supported) (c′ .supported))
     where
@@ -137,7 +137,7 @@ module _ (W : World) where
           name-path b b′ er ea mark
 
   -- Certificate against direct skip: an author in both quorums would both reference b and not.
-  pub certified-not-skipped : (w b : Name) → Certifies w b → Many (W .n) (quorum (W .n)) (Without b) → ⊥
+  pub certified-not-skipped : (w b : Name) → Certificate w b → Many (W .n) (quorum (W .n)) (Without b) → ⊥
   certified-not-skipped w b c many = go (meet (W .n) (faults (W .n)) (Supported w b) (Without b) (W .faulty) (W .count) (W .few) (c .supported) many)
     where
       go : Shared (W .n) (Supported w b) (Without b) (W .faulty) → ⊥
@@ -200,7 +200,7 @@ module _ (W : World) where
 
   -- there is a certificate for b
   abbrev pub Certified : Name → Type 0
-  Certified b = (w : Name) × Certifies w b
+  Certified b = (w : Name) × Certificate w b
 
   by-some : (b : Name) → Many (W .n) (quorum (W .n)) (CertifiedBy b) → Certified b
   by-some b many = let k = some-of (W .n) (quorum (W .n)) (CertifiedBy b) (omega arith) many in (k .2 .who, k .2 .certifies)

@@ -2,5 +2,9 @@ pub mod Names
 pub mod Refusals
 pub mod Records
 pub mod Accepted
+pub mod Support
+pub mod History
 pub mod Decisions
+pub mod Decide
+pub mod Highest
 pub mod Examples

@@ -98,3 +98,10 @@ pub below-round : (x y : Name) → Below x y → x .round ≤ y .round
 unfolding Below
 below-round x y (inl a) = omega arith
 below-round x y (inr (a, h)) = omega arith
+
+-- of two names of one round and author the marks tell
+pub below-mark : (x y : Name) → Below x y → x .round ≡ y .round → x .author ≡ y .author → x .mark < y .mark
+unfolding Below
+below-mark x y (inl a) r h = absurd (omega arith)
+below-mark x y (inr (a, inl b)) r h = absurd (omega arith)
+below-mark x y (inr (a, inr (b, m))) r h = m

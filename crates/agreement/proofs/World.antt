@@ -5,14 +5,12 @@
 -- Assumes nothing.
 use Prim.Native.Nat.{ℕ, zero, suc, pred, _+_, _*_, _-_, _≤_, _<_}
 use mathlib.Core.Path.{_≡_, refl, sym, ap, _∙_, subst}
-use mathlib.Core.Logic.{_⊎_, inl, inr, _≢_}
-use mathlib.Core.Bool.{Bool, true, false, not}
+use mathlib.Core.Logic.{_≢_}
+use mathlib.Core.Bool.{Bool, true, false}
 use native.Mathlib.Omega.{arith}
-use lib.Dec.{eqb}
-use borrow.Author.Tests.{eqb-true, eq-eqb, ne-eqb}
-use Rattle.folds.specs.Folds.{_and_, countTo}
+use Rattle.folds.specs.Folds.{countTo}
 use Rattle.folds.specs.Many.{Many}
-use Rattle.folds.proofs.Tests.{not-both, and-right, and-true, is-not}
+use Rattle.folds.proofs.Tests.{not-both}
 use Rattle.folds.proofs.Quorum.{Shared, meet, some-of, many-map}
 use Rattle.rules.specs.declared.Name.{Name}
 use Rattle.rules.specs.declared.Vertex.{Vertex}
@@ -22,6 +20,7 @@ use Rattle.rules.specs.Decision.{Decision, undecided, skipped, committed, Decid
 use Rattle.rules.specs.Support.{references}
 use Rattle.rules.specs.History.{Reaches, itself, onward, StepRule}
 use Rattle.rules.proofs.Names.{name-path}
+use Rattle.rules.proofs.Support.{references-is, is-references}
 use Rattle.agreement.proofs.Boxes.{Why, Box, Fit, Ends, agree}
 
 -- ---- the slots
@@ -35,9 +34,9 @@ pub one-leader : (n : ℕ) → Geometry (oneLeader n)
 one-leader n = record { later = λ s. omega arith; three-up = λ s t l. omega arith }
 
 -- The name is that of a vertex of the slot.
-pub record InSlot (S : Slots) (s : ℕ) (b : Name) : Type 0 where
+pub record OfSlot (S : Slots) (s : ℕ) (b : Name) : Type 0 where
   pub at-round : b .round ≡ S .roundOf s
-  pub at-leader : b .author ≡ S .leaderOf s
+  pub by-leader : b .author ≡ S .leaderOf s
 
 -- ---- a world of vertices
 
@@ -60,17 +59,12 @@ pub record World : Type 1 where
   pub few : countTo faulty n ≤ faults n
   pub single : (x y : Name) → In x → In y → x .round ≡ y .round → x .author ≡ y .author → faulty (x .author) ≡ false → x ≡ y
 
--- the entry that a reference is
-entry-is : (v : Vertex) (y : Name) → references v y ≡ true → entry v (y .author) ≡ y .mark
-unfolding references
-entry-is v y e = eqb-true _ _ (and-right _ _ (and-right _ _ e))
-
 -- a name that a non-zero entry gives is referenced
 entry-references : (v : Vertex) (i : ℕ) → v .round ≢ 0 → entry v i ≢ 0 → references v (entryName v i) ≡ true
-unfolding references
-entry-references v i r nz =
-    let up : v .round ≡ pred (v .round) + 1 = omega arith in
-    and-true _ _ (eq-eqb _ _ up) (and-true _ _ (is-not (ne-eqb _ _ nz)) (eq-eqb (entry v i) _ refl))
+entry-references v i r nz = is-references v (entryName v i) (record { one-up = up; marked = nz; names = refl })
+  where
+    up : v .round ≡ pred (v .round) + 1
+    up = omega arith
 
 module _ (W : World) where
   -- y is in the history of a
@@ -133,7 +127,7 @@ module _ (W : World) where
           let one : x ≡ x′ =
           W .single x x′ (W .entry-in w (m .who) (c .is-in) (m .low) (m .left .nonzero)) (W .entry-in w′ (m .who) (c′ .is-in) (m .low) (m .right .nonzero)) level refl (m .honest) in
           let mark : b .mark ≡ b′ .mark =
-          sym (entry-is _ b (m .left .supports)) ∙ ap (λ y. entry (W .vertex y) (b .author)) one ∙ ap (entry (W .vertex x′)) ea ∙ entry-is _ b′ (m .right .supports) in
+          sym (references-is _ b (m .left .supports) .names) ∙ ap (λ y. entry (W .vertex y) (b .author)) one ∙ ap (entry (W .vertex x′)) ea ∙ references-is _ b′ (m .right .supports) .names in
           name-path b b′ er ea mark
 
   -- Certificate against direct skip: an author in both quorums would both reference b and not.
@@ -205,16 +199,16 @@ module _ (W : World) where
   by-some : (b : Name) → Many (W .n) (quorum (W .n)) (CertifiedBy b) → Certified b
   by-some b many = let k = some-of (W .n) (quorum (W .n)) (CertifiedBy b) (omega arith) many in (k .2 .who, k .2 .certifies)
 
-  same-slot : {S : Slots} {s : ℕ} {b c : Name} → InSlot S s b → InSlot S s c → Certified b → Certified c → b ≡ c
+  same-slot : {S : Slots} {s : ℕ} {b c : Name} → OfSlot S s b → OfSlot S s c → Certified b → Certified c → b ≡ c
   same-slot {b = b} {c = c} h k (w, x) (w′, x′) =
-      certified-same w w′ b c x x′ (h .at-round ∙ sym (k .at-round)) (h .at-leader ∙ sym (k .at-leader))
+      certified-same w w′ b c x x′ (h .at-round ∙ sym (k .at-round)) (h .by-leader ∙ sym (k .by-leader))
 
 -- ---- a box's view of the world
 
 -- What an anchor a decides of slot s, for a box that holds the vertices `has`.
 pub data Picked (W : World) (S : Slots) (has : Name → Type 0) (s : ℕ) (a : Name) (d : Decision Name) : Type 0 where
-  chose : (b : Name) → InSlot S s b → CertifiedIn W a b → d ≡ committed b → Picked W S has s a d
-  nobody : ((b : Name) → InSlot S s b → has b → CertifiedIn W a b → ⊥) → d ≡ skipped → Picked W S has s a d
+  chose : (b : Name) → OfSlot S s b → CertifiedIn W a b → d ≡ committed b → Picked W S has s a d
+  nobody : ((b : Name) → OfSlot S s b → has b → CertifiedIn W a b → ⊥) → d ≡ skipped → Picked W S has s a d
 
 pub record View (W : World) (S : Slots) : Type 1 where
   -- the vertices it holds: with a vertex its whole history
@@ -226,10 +220,10 @@ pub record View (W : World) (S : Slots) : Type 1 where
   pub Skips : ℕ → Type 0
   pub pick : ℕ → Name → Decision Name
   pub dec : ℕ → Decision Name
-  pub commits : (s : ℕ) (b : Name) → Commits s b → InSlot S s b × Many (W .n) (quorum (W .n)) (CertifiedBy W b)
-  pub skips : (s : ℕ) (b : Name) → Skips s → InSlot S s b → Many (W .n) (quorum (W .n)) (Without W b)
+  pub commits : (s : ℕ) (b : Name) → Commits s b → OfSlot S s b × Many (W .n) (quorum (W .n)) (CertifiedBy W b)
+  pub skips : (s : ℕ) (b : Name) → Skips s → OfSlot S s b → Many (W .n) (quorum (W .n)) (Without W b)
   pub picked : (s : ℕ) (a : Name) → has a → Picked W S has s a (pick s a)
-  pub leads : (t : ℕ) (a : Name) → dec t ≡ committed a → has a × InSlot S t a
+  pub leads : (t : ℕ) (a : Name) → dec t ≡ committed a → has a × OfSlot S t a
   pub why : (s : ℕ) → Why (S .start) Commits Skips pick dec s
 
 module _ {W : World} {S : Slots} where
@@ -265,7 +259,7 @@ module _ {W : World} {S : Slots} where
     commit-anchor : (s t : ℕ) (b a : Name) → X .Commits s b → S .start s ≤ t → Y .dec t ≡ committed a → Y .pick s a ≡ committed b
     commit-anchor s t b a k l e = go (X .commits s b k) (Y .leads t a e)
       where
-        go : InSlot S s b × Many (W .n) (quorum (W .n)) (CertifiedBy W b) → Y .has a × InSlot S t a → Y .pick s a ≡ committed b
+        go : OfSlot S s b × Many (W .n) (quorum (W .n)) (CertifiedBy W b) → Y .has a × OfSlot S t a → Y .pick s a ≡ committed b
         go (sb, many) (ha, sa) = choice (Y .picked s a ha)
           where
             there : CertifiedIn W a b

@@ -1,3 +1,4 @@
 pub mod Boxes
 pub mod World
 pub mod Table
+pub mod Joint

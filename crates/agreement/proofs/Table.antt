@@ -19,7 +19,7 @@ use Rattle.rules.specs.Authors.{quorum, Slots}
 use Rattle.rules.specs.Record.{at, nameOf, entry, entryName, find, vertexOf}
 use Rattle.rules.specs.Decision.{Decision, undecided, skipped, committed, tell}
 use Rattle.rules.specs.Support.{references, supports, blank, certifies, directCommit, SkipRule, directSkip}
-use Rattle.rules.specs.History.{Reaches, history}
+use Rattle.rules.specs.History.{Reaches, StepRule, history}
 use Rattle.rules.specs.Decide.{Setting, inSlot, certifiedIn, throughAnchor, decisions, decisionAt}
 use Rattle.rules.proofs.Records.{find-name}
 use Rattle.rules.proofs.Accepted.{Accepted, earlier, find-at, vertexOf-at}
@@ -33,24 +33,27 @@ use Rattle.agreement.proofs.World as world
 use Rattle.agreement.proofs.World.{World, Geometry, OfSlot, Supported, Certificate, Without, CertifiedBy, CertifiedIn, Picked, View}
 
 -- The vertices of a table stand in a world, and a step goes to an earlier record.
-pub record TableIn (W : World) (vs : List Vertex) : Type 0 where
-  pub accepted : Accepted (W .n) vs
+pub record TableIn {n : ℕ} {step : StepRule} (W : World n step) (vs : List Vertex) : Type 0 where
+  pub accepted : Accepted n vs
   pub shows : (p : ℕ) → p < length vs → W .vertex (nameOf (at vs p)) ≡ at vs p
   pub ins : (p : ℕ) → p < length vs → W .In (nameOf (at vs p))
-  pub down : Downward (W .step) vs
+  pub down : Downward step vs
 
 -- The vertex of the name stands in the table.
 abbrev pub Holds : List Vertex → Name → Type 0
 Holds vs x = find vs x < length vs
 
-module _ {W : World} {vs : List Vertex} (T : TableIn W vs) where
+abbrev pub setting : Slots → SkipRule → StepRule → Setting
+setting S skip step = record { slots = S; skip = skip; step = step }
+
+module _ {n : ℕ} {step : StepRule} {W : World n step} {vs : List Vertex} (T : TableIn W vs) where
   abbrev name : ℕ → Name
   name p = nameOf (at vs p)
 
-  abbrev A : Accepted (W .n) vs
+  abbrev A : Accepted n vs
   A = T .accepted
 
-  pub follows : Follows (W .step) vs (λ x y. W .step (W .vertex x) y ≡ true)
+  pub follows : Follows step vs (λ x y. step (W .vertex x) y ≡ true)
   follows = record { to = λ q y l e. rw (T .shows q l) e; fro = λ q y l e. rw (T .shows q l) at e }
 
   -- ---- certificates: the test in the table and the certificate in the world are the same
@@ -63,24 +66,24 @@ module _ {W : World} {vs : List Vertex} (T : TableIn W vs) where
       let held : find vs y < length vs = omega (arith, earlier A q i l nz) in
       sym (T .shows (find vs y) held) ∙ ap (W .vertex) (find-name vs y held) ∙ ap (λ v. W .vertex (entryName v i)) (sym (T .shows q l))
 
-  pub certificate-is : (q p : ℕ) → q < length vs → certifies (W .n) vs (at vs q) (at vs p) ≡ true → Certificate W (name q) (name p)
+  pub certificate-is : (q p : ℕ) → q < length vs → certifies n vs (at vs q) (at vs p) ≡ true → Certificate W (name q) (name p)
   unfolding supports
   certificate-is q p l e =
-      let c = certifies-is (W .n) vs (at vs q) (at vs p) e in
+      let c = certifies-is n vs (at vs q) (at vs p) e in
       record {
         is-in = T .ins q l;
         two-up = c .two-up;
-        supported = many-map (W .n) (quorum (W .n)) (Backs vs (at vs q) (at vs p)) (Supported W (name q) (name p)) (λ i li k. record {
+        supported = many-map n (quorum n) (Backs vs (at vs q) (at vs p)) (Supported W (name q) (name p)) (λ i li k. record {
           nonzero = λ z. k .filled (ap (λ v. entry v i) (sym (T .shows q l)) ∙ z);
           supports = ap (λ v. references v (name p)) (sym (entry-same q i l (k .filled))) ∙ k .supporter;
         }) (c .backed);
       }
 
-  pub is-certificate : (q p : ℕ) → q < length vs → Certificate W (name q) (name p) → certifies (W .n) vs (at vs q) (at vs p) ≡ true
+  pub is-certificate : (q p : ℕ) → q < length vs → Certificate W (name q) (name p) → certifies n vs (at vs q) (at vs p) ≡ true
   unfolding supports
-  is-certificate q p l c = is-certifies (W .n) vs (at vs q) (at vs p) (record {
+  is-certificate q p l c = is-certifies n vs (at vs q) (at vs p) (record {
     two-up = c .two-up;
-    backed = many-map (W .n) (quorum (W .n)) (Supported W (name q) (name p)) (Backs vs (at vs q) (at vs p)) (λ i li k. backs i k) (c .supported);
+    backed = many-map n (quorum n) (Supported W (name q) (name p)) (Backs vs (at vs q) (at vs p)) (λ i li k. backs i k) (c .supported);
   })
     where
       backs : (i : ℕ) → Supported W (name q) (name p) i → Backs vs (at vs q) (at vs p) i
@@ -92,11 +95,11 @@ module _ {W : World} {vs : List Vertex} (T : TableIn W vs) where
 
   -- What a rule for the direct skip has to give: where it skips round and leader of b, a quorum whose vertices do not reference b.
   abbrev pub SkipLaw : SkipRule → Type 0
-  SkipLaw skip = (b : Name) → skip (W .n) vs (b .round) (b .author) ≡ true → Many (W .n) (quorum (W .n)) (Without W b)
+  SkipLaw skip = (b : Name) → skip n vs (b .round) (b .author) ≡ true → Many n (quorum n) (Without W b)
 
   -- A vertex that is blank for b's round does not reference b.
   pub blank-law : SkipLaw directSkip
-  blank-law b e = many-map (W .n) (quorum (W .n)) (Has vs (λ w. blank w (b .round) (b .author))) (Without W b) (λ i li h. without i h) (skip-is (W .n) vs (b .round) (b .author) e)
+  blank-law b e = many-map n (quorum n) (Has vs (λ w. blank w (b .round) (b .author))) (Without W b) (λ i li h. without i h) (skip-is n vs (b .round) (b .author) e)
     where
       without : (i : ℕ) → Has vs (λ w. blank w (b .round) (b .author)) i → Without W b i
       without i (p, l, ei, t) =
@@ -111,31 +114,28 @@ module _ {W : World} {vs : List Vertex} (T : TableIn W vs) where
 
   -- ---- the anchor's choice
 
-  certified-is : (a p : ℕ) → a < length vs → certifiedIn (W .n) vs (history (W .step) vs a) (at vs p) ≡ true → CertifiedIn W (name a) (name p)
+  certified-is : (a p : ℕ) → a < length vs → certifiedIn n vs (history step vs a) (at vs p) ≡ true → CertifiedIn W (name a) (name p)
   unfolding certifiedIn
-  certified-is a p l e = go (any-witness _ (length (history (W .step) vs a)) e)
+  certified-is a p l e = go (any-witness _ (length (history step vs a)) e)
     where
-      go : (q : ℕ) × (q < length (history (W .step) vs a)) × (getD (history (W .step) vs a) q false and certifies (W .n) vs (at vs q) (at vs p) ≡ true)
+      go : (q : ℕ) × (q < length (history step vs a)) × (getD (history step vs a) q false and certifies n vs (at vs q) (at vs p) ≡ true)
           → CertifiedIn W (name a) (name p)
       go (q, lq, t) =
           let la : q ≤ a = omega (arith, history-length A (T .down) follows a l) in
           record { who = name q; reached = history-sound A (T .down) follows a q l la (and-left _ _ t); certifies = certificate-is q p (omega arith) (and-right _ _ t) }
 
-  is-certified : (a p : ℕ) → a < length vs → CertifiedIn W (name a) (name p) → certifiedIn (W .n) vs (history (W .step) vs a) (at vs p) ≡ true
+  is-certified : (a p : ℕ) → a < length vs → CertifiedIn W (name a) (name p) → certifiedIn n vs (history step vs a) (at vs p) ≡ true
   unfolding certifiedIn
   is-certified a p l c = go (reached-at A (T .down) follows a l (c .who) (c .reached))
     where
-      go : (q : ℕ) × (q ≤ a) × (name q ≡ c .who) → anyTo (λ q. getD (history (W .step) vs a) q false and certifies (W .n) vs (at vs q) (at vs p)) (length (history (W .step) vs a)) ≡ true
+      go : (q : ℕ) × (q ≤ a) × (name q ≡ c .who) → anyTo (λ q. getD (history step vs a) q false and certifies n vs (at vs q) (at vs p)) (length (history step vs a)) ≡ true
       go (q, la, e) =
           let reached = subst (Reaches _ (name a)) (sym e) (c .reached) in
           let certificate = subst (λ x. Certificate W x (name p)) (sym e) (c .certifies) in
-          any-intro _ (length (history (W .step) vs a)) q (omega (arith, history-length A (T .down) follows a l))
+          any-intro _ (length (history step vs a)) q (omega (arith, history-length A (T .down) follows a l))
           (and-true _ _ (history-complete A (T .down) follows a q l la reached) (is-certificate q p (omega arith) certificate))
 
   module _ (S : Slots) (skip : SkipRule) where
-    abbrev pub setting : Setting
-    setting = record { slots = S; skip = skip; step = W .step }
-
     slot-name : (s p : ℕ) → inSlot S s (at vs p) ≡ true → OfSlot S s (name p)
     slot-name s p e = let i = slot-is S s (at vs p) e in record { at-round = i .at-round; by-leader = i .by-leader }
 
@@ -146,25 +146,25 @@ module _ {W : World} {vs : List Vertex} (T : TableIn W vs) where
     pub record Commit (s : ℕ) (b : Name) : Type 0 where
       pub held : Holds vs b
       pub slotted : inSlot S s (at vs (find vs b)) ≡ true
-      pub passes : directCommit (W .n) vs (at vs (find vs b)) ≡ true
+      pub passes : directCommit n vs (at vs (find vs b)) ≡ true
 
-    commits : (s : ℕ) (b : Name) → Commit s b → OfSlot S s b × Many (W .n) (quorum (W .n)) (CertifiedBy W b)
-    commits s b c = subst (λ x. OfSlot S s x × Many (W .n) (quorum (W .n)) (CertifiedBy W x)) (find-name vs b (c .held)) (
+    commits : (s : ℕ) (b : Name) → Commit s b → OfSlot S s b × Many n (quorum n) (CertifiedBy W b)
+    commits s b c = subst (λ x. OfSlot S s x × Many n (quorum n) (CertifiedBy W x)) (find-name vs b (c .held)) (
       slot-name s p (c .slotted),
-      many-map (W .n) (quorum (W .n)) (Has vs (λ w. certifies (W .n) vs w (at vs p))) (CertifiedBy W (name p)) (λ i li h. certifier i h) (commit-is (W .n) vs (at vs p) (c .passes)),
+      many-map n (quorum n) (Has vs (λ w. certifies n vs w (at vs p))) (CertifiedBy W (name p)) (λ i li h. certifier i h) (commit-is n vs (at vs p) (c .passes)),
     )
       where
         p : ℕ
         p = find vs b
 
-        certifier : (i : ℕ) → Has vs (λ w. certifies (W .n) vs w (at vs p)) i → CertifiedBy W (name p) i
+        certifier : (i : ℕ) → Has vs (λ w. certifies n vs w (at vs p)) i → CertifiedBy W (name p) i
         certifier i (q, l, e, t) = record { who = name q; by = e; certifies = certificate-is q p l t }
 
-    picks : (s a : ℕ) → a < length vs → Picked W S (Holds vs) s (name a) (tell name (throughAnchor setting (W .n) vs s a))
+    picks : (s a : ℕ) → a < length vs → Picked W S (Holds vs) s (name a) (tell name (throughAnchor (setting S skip step) n vs s a))
     unfolding throughAnchor tell
-    picks s a l = go (choose-is A S s (certifiedIn (W .n) vs (history (W .step) vs a)) skipped)
+    picks s a l = go (choose-is A S s (certifiedIn n vs (history step vs a)) skipped)
       where
-        go : {d : Decision ℕ} → Chosen S vs s (certifiedIn (W .n) vs (history (W .step) vs a)) skipped d → Picked W S (Holds vs) s (name a) (tell name d)
+        go : {d : Decision ℕ} → Chosen S vs s (certifiedIn n vs (history step vs a)) skipped d → Picked W S (Holds vs) s (name a) (tell name d)
         go (chosen p lp i c b e) = world.chose (name p) (slot-name s p i) (certified-is a p l c) (ap (tell name) e)
         go (nobody none e) = world.nobody none-of (ap (tell name) e)
           where
@@ -176,35 +176,35 @@ module _ {W : World} {vs : List Vertex} (T : TableIn W vs) where
 
     module _ (G : Geometry S) (law : SkipLaw skip) where
       abbrev dec : ℕ → Decision Name
-      dec s = told setting (W .n) vs s
+      dec s = told (setting S skip step) n vs s
 
       abbrev Skip : ℕ → Type 0
-      Skip s = skip (W .n) vs (S .roundOf s) (S .leaderOf s) ≡ true
+      Skip s = skip n vs (S .roundOf s) (S .leaderOf s) ≡ true
 
       abbrev pick : ℕ → Name → Decision Name
-      pick s x = tell name (throughAnchor setting (W .n) vs s (find vs x))
+      pick s x = tell name (throughAnchor (setting S skip step) n vs s (find vs x))
 
       leader-held : (t : ℕ) (x : Name) → dec t ≡ committed x → Holds vs x × OfSlot S t x
-      leader-held t x e = go (tell-committed name (decisionAt (decisions setting (W .n) vs) t) x e)
+      leader-held t x e = go (tell-committed name (decisionAt (decisions (setting S skip step) n vs) t) x e)
         where
-          go : (p : ℕ) × (decisionAt (decisions setting (W .n) vs) t ≡ committed p) × (name p ≡ x) → Holds vs x × OfSlot S t x
+          go : (p : ℕ) × (decisionAt (decisions (setting S skip step) n vs) t ≡ committed p) × (name p ≡ x) → Holds vs x × OfSlot S t x
           go (p, e′, ex) =
-              let h = leads setting (G .later) A t p e′ in
+              let h = leads (setting S skip step) (G .later) A t p e′ in
               let held : Holds vs (name p) = rw (find-at A p (h .0)) (h .0) in
               (subst (Holds vs) ex held, subst (OfSlot S t) ex (slot-name t p (h .1)))
 
       why : (s : ℕ) → Why (S .start) Commit Skip pick dec s
       unfolding tell
-      why s = go (because setting (G .later) A s)
+      why s = go (because (setting S skip step) (G .later) A s)
         where
-          go : Because setting (W .n) vs s (decisionAt (decisions setting (W .n) vs) s) → Why (S .start) Commit Skip pick dec s
+          go : Because (setting S skip step) n vs s (decisionAt (decisions (setting S skip step) n vs) s) → Why (S .start) Commit Skip pick dec s
           go (direct p l i c e) =
               let here : find vs (name p) ≡ p = find-at A p l in
               by-commit (name p) (record { held = rw here l; slotted = rw here i; passes = rw here c }) (ap (tell name) e)
           go (skips b e) = by-skip b (ap (tell name) e)
           go (through t a l f g e) =
               by-anchor t (name a) l (λ u h h′. ap (tell name) (f u h h′)) (ap (tell name) g)
-              (ap (tell name) e ∙ ap (λ p. tell name (throughAnchor setting (W .n) vs s p)) (sym (find-at A a (leads setting (G .later) A t a g .0))))
+              (ap (tell name) e ∙ ap (λ p. tell name (throughAnchor (setting S skip step) n vs s p)) (sym (find-at A a (leads (setting S skip step) (G .later) A t a g .0))))
           go (blocked t l f g e) = by-nothing t l (λ u h h′. ap (tell name) (f u h h′)) (ap (tell name) g) (ap (tell name) e)
 
       picked : (s : ℕ) (x : Name) → Holds vs x → Picked W S (Holds vs) s x (pick s x)
@@ -226,13 +226,13 @@ module _ {W : World} {vs : List Vertex} (T : TableIn W vs) where
         why = why;
       }
         where
-          has-step : (x y : Name) → Holds vs x → W .step (W .vertex x) y ≡ true → Holds vs y
+          has-step : (x y : Name) → Holds vs x → step (W .vertex x) y ≡ true → Holds vs y
           has-step x y h e =
               let p = find vs x in
-              let d = T .down p y h (follows .fro p y h (subst (λ z. W .step (W .vertex z) y ≡ true) (sym (find-name vs x h)) e)) in
+              let d = T .down p y h (follows .fro p y h (subst (λ z. step (W .vertex z) y ≡ true) (sym (find-name vs x h)) e)) in
               omega (arith, d)
 
       -- what the view decides is what the table decides, told by name
-      pub view-dec : (s : ℕ) → view .dec s ≡ told setting (W .n) vs s
+      pub view-dec : (s : ℕ) → view .dec s ≡ told (setting S skip step) n vs s
       unfolding view
       view-dec s = refl

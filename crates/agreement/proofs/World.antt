@@ -40,8 +40,8 @@ pub record OfSlot (S : Slots) (s : ℕ) (b : Name) : Type 0 where
 
 -- ---- a world of vertices
 
-pub record World : Type 1 where
-  pub n : ℕ
+-- n authors, and the step of a history
+pub record World (n : ℕ) (step : StepRule) : Type 1 where
   pub count : n ≡ 3 * faults n + 1
   -- the vertex that a name stands for, and the names of the vertices that there are
   pub vertex : Name → Vertex
@@ -51,8 +51,7 @@ pub record World : Type 1 where
   -- entries name vertices that there are, and from round 2 on they are a quorum
   pub entry-in : (x : Name) (i : ℕ) → In x → i < n → entry (vertex x) i ≢ 0 → In (entryName (vertex x) i)
   pub enough : (x : Name) → In x → 1 < x .round → Many n (quorum n) (λ i. entry (vertex x) i ≢ 0)
-  -- one step of a history: a reference is one
-  pub step : StepRule
+  -- a reference is one step of a history
   pub reference-step : (v : Vertex) (y : Name) → references v y ≡ true → step v y ≡ true
   -- who has two vertices in some one round
   pub faulty : ℕ → Bool
@@ -66,10 +65,10 @@ entry-references v i r nz = is-references v (entryName v i) (record { one-up = u
     up : v .round ≡ pred (v .round) + 1
     up = omega arith
 
-module _ (W : World) where
+module _ {n : ℕ} {step : StepRule} (W : World n step) where
   -- y is in the history of a
   abbrev pub Reached : Name → Name → Type 0
-  Reached a y = Reaches (λ x y. W .step (W .vertex x) y ≡ true) a y
+  Reached a y = Reaches (λ x y. step (W .vertex x) y ≡ true) a y
 
   -- Entry i of w is to a supporter of b.
   pub record Supported (w b : Name) (i : ℕ) : Type 0 where
@@ -80,7 +79,7 @@ module _ (W : World) where
   pub record Certificate (w b : Name) : Type 0 where
     pub is-in : W .In w
     pub two-up : w .round ≡ b .round + 2
-    pub supported : Many (W .n) (quorum (W .n)) (Supported w b)
+    pub supported : Many n (quorum n) (Supported w b)
 
   -- Author i has a vertex in the round after b's that does not reference b.
   pub record Without (b : Name) (i : ℕ) : Type 0 where
@@ -115,9 +114,9 @@ module _ (W : World) where
   -- supporters share an author with one vertex in their round, and that one has one entry for the leader.
   pub certified-same : (w w′ b b′ : Name) → Certificate w b → Certificate w′ b′ → b .round ≡ b′ .round → b .author ≡ b′ .author → b ≡ b′
   certified-same w w′ b b′ c c′ er ea =
-      go (meet (W .n) (faults (W .n)) (Supported w b) (Supported w′ b′) (W .faulty) (W .count) (W .few) (c .supported) (c′ .supported))
+      go (meet n (faults n) (Supported w b) (Supported w′ b′) (W .faulty) (W .count) (W .few) (c .supported) (c′ .supported))
     where
-      go : Shared (W .n) (Supported w b) (Supported w′ b′) (W .faulty) → b ≡ b′
+      go : Shared n (Supported w b) (Supported w′ b′) (W .faulty) → b ≡ b′
       go m =
           let x = entryName (W .vertex w) (m .who) in
           let x′ = entryName (W .vertex w′) (m .who) in
@@ -131,10 +130,10 @@ module _ (W : World) where
           name-path b b′ er ea mark
 
   -- Certificate against direct skip: an author in both quorums would both reference b and not.
-  pub certified-not-skipped : (w b : Name) → Certificate w b → Many (W .n) (quorum (W .n)) (Without b) → ⊥
-  certified-not-skipped w b c many = go (meet (W .n) (faults (W .n)) (Supported w b) (Without b) (W .faulty) (W .count) (W .few) (c .supported) many)
+  pub certified-not-skipped : (w b : Name) → Certificate w b → Many n (quorum n) (Without b) → ⊥
+  certified-not-skipped w b c many = go (meet n (faults n) (Supported w b) (Without b) (W .faulty) (W .count) (W .few) (c .supported) many)
     where
-      go : Shared (W .n) (Supported w b) (Without b) (W .faulty) → ⊥
+      go : Shared n (Supported w b) (Without b) (W .faulty) → ⊥
       go m =
           let x = entryName (W .vertex w) (m .who) in
           let k = m .right in
@@ -155,22 +154,22 @@ module _ (W : World) where
   pub lower-round : (k r : ℕ) (a v : Name) → 0 < r → Reached a v → W .In v → v .round ≡ r + k → (i : ℕ) × ReachedBy a r i
   lower-round zero r a v pos h iv e = (v .author, record { who = v; reached = h; is-in = iv; at-round = omega arith; by = refl })
   lower-round (suc k) r a v pos h iv e =
-      go (λ x h ix e. lower-round k r a x pos h ix e) (some-of (W .n) (quorum (W .n)) (λ i. entry (W .vertex v) i ≢ 0) (omega arith) (W .enough v iv (omega arith)))
+      go (λ x h ix e. lower-round k r a x pos h ix e) (some-of n (quorum n) (λ i. entry (W .vertex v) i ≢ 0) (omega arith) (W .enough v iv (omega arith)))
     where
-      go : ((x : Name) → Reached a x → W .In x → x .round ≡ r + k → (i : ℕ) × ReachedBy a r i) → (i : ℕ) × (i < W .n) × (entry (W .vertex v) i ≢ 0)
+      go : ((x : Name) → Reached a x → W .In x → x .round ≡ r + k → (i : ℕ) × ReachedBy a r i) → (i : ℕ) × (i < n) × (entry (W .vertex v) i ≢ 0)
           → (i : ℕ) × ReachedBy a r i
       go rest (i, l, nz) =
           let up : v .round ≡ r + k + 1 = omega arith in
           rest (entryName (W .vertex v) i) (entry-step a v i h iv nz) (W .entry-in v i iv l nz) (entry-round v _ iv up)
 
   -- In every round below a's, at least 2f+1 authors have a vertex in the history of a.
-  pub quorum-below : (a : Name) (r : ℕ) → W .In a → 0 < r → r < a .round → Many (W .n) (quorum (W .n)) (ReachedBy a r)
+  pub quorum-below : (a : Name) (r : ℕ) → W .In a → 0 < r → r < a .round → Many n (quorum n) (ReachedBy a r)
   quorum-below a r ia pos l = go (lower-round (a .round - (r + 1)) (r + 1) a a (omega arith) itself ia (omega arith))
     where
-      go : (i : ℕ) × ReachedBy a (r + 1) i → Many (W .n) (quorum (W .n)) (ReachedBy a r)
+      go : (i : ℕ) × ReachedBy a (r + 1) i → Many n (quorum n) (ReachedBy a r)
       go (j, k) =
           let v = k .who in
-          many-map (W .n) (quorum (W .n)) (λ i. entry (W .vertex v) i ≢ 0) (ReachedBy a r) (λ i li nz. record {
+          many-map n (quorum n) (λ i. entry (W .vertex v) i ≢ 0) (ReachedBy a r) (λ i li nz. record {
             who = entryName (W .vertex v) i;
             reached = entry-step a v i (k .reached) (k .is-in) nz;
             is-in = W .entry-in v i (k .is-in) li nz;
@@ -180,11 +179,11 @@ module _ (W : World) where
 
   -- Certificates reach every later vertex: what a quorum certifies, everything three rounds up or more has a certificate for in its
   -- history. The authors that its history has in the round of the certificates and those that certify share one with a single vertex there.
-  pub certified-later : (a b : Name) → W .In a → b .round + 3 ≤ a .round → Many (W .n) (quorum (W .n)) (CertifiedBy b) → CertifiedIn a b
+  pub certified-later : (a b : Name) → W .In a → b .round + 3 ≤ a .round → Many n (quorum n) (CertifiedBy b) → CertifiedIn a b
   certified-later a b ia h many =
-      go (meet (W .n) (faults (W .n)) (ReachedBy a (b .round + 2)) (CertifiedBy b) (W .faulty) (W .count) (W .few) (quorum-below a (b .round + 2) ia (omega arith) (omega arith)) many)
+      go (meet n (faults n) (ReachedBy a (b .round + 2)) (CertifiedBy b) (W .faulty) (W .count) (W .few) (quorum-below a (b .round + 2) ia (omega arith) (omega arith)) many)
     where
-      go : Shared (W .n) (ReachedBy a (b .round + 2)) (CertifiedBy b) (W .faulty) → CertifiedIn a b
+      go : Shared n (ReachedBy a (b .round + 2)) (CertifiedBy b) (W .faulty) → CertifiedIn a b
       go m =
           let x = m .left in
           let k = m .right in
@@ -196,8 +195,8 @@ module _ (W : World) where
   abbrev pub Certified : Name → Type 0
   Certified b = (w : Name) × Certificate w b
 
-  by-some : (b : Name) → Many (W .n) (quorum (W .n)) (CertifiedBy b) → Certified b
-  by-some b many = let k = some-of (W .n) (quorum (W .n)) (CertifiedBy b) (omega arith) many in (k .2 .who, k .2 .certifies)
+  by-some : (b : Name) → Many n (quorum n) (CertifiedBy b) → Certified b
+  by-some b many = let k = some-of n (quorum n) (CertifiedBy b) (omega arith) many in (k .2 .who, k .2 .certifies)
 
   same-slot : {S : Slots} {s : ℕ} {b c : Name} → OfSlot S s b → OfSlot S s c → Certified b → Certified c → b ≡ c
   same-slot {b = b} {c = c} h k (w, x) (w′, x′) =
@@ -206,27 +205,27 @@ module _ (W : World) where
 -- ---- a box's view of the world
 
 -- What an anchor a decides of slot s, for a box that holds the vertices `has`.
-pub data Picked (W : World) (S : Slots) (has : Name → Type 0) (s : ℕ) (a : Name) (d : Decision Name) : Type 0 where
+pub data Picked {n : ℕ} {step : StepRule} (W : World n step) (S : Slots) (has : Name → Type 0) (s : ℕ) (a : Name) (d : Decision Name) : Type 0 where
   chose : (b : Name) → OfSlot S s b → CertifiedIn W a b → d ≡ committed b → Picked W S has s a d
   nobody : ((b : Name) → OfSlot S s b → has b → CertifiedIn W a b → ⊥) → d ≡ skipped → Picked W S has s a d
 
-pub record View (W : World) (S : Slots) : Type 1 where
+pub record View {n : ℕ} {step : StepRule} (W : World n step) (S : Slots) : Type 1 where
   -- the vertices it holds: with a vertex its whole history
   pub has : Name → Type 0
   pub has-in : (x : Name) → has x → W .In x
-  pub has-step : (x y : Name) → has x → W .step (W .vertex x) y ≡ true → has y
+  pub has-step : (x y : Name) → has x → step (W .vertex x) y ≡ true → has y
   -- the direct rules, the anchors' choice, the decisions
   pub Commits : ℕ → Name → Type 0
   pub Skips : ℕ → Type 0
   pub pick : ℕ → Name → Decision Name
   pub dec : ℕ → Decision Name
-  pub commits : (s : ℕ) (b : Name) → Commits s b → OfSlot S s b × Many (W .n) (quorum (W .n)) (CertifiedBy W b)
-  pub skips : (s : ℕ) (b : Name) → Skips s → OfSlot S s b → Many (W .n) (quorum (W .n)) (Without W b)
+  pub commits : (s : ℕ) (b : Name) → Commits s b → OfSlot S s b × Many n (quorum n) (CertifiedBy W b)
+  pub skips : (s : ℕ) (b : Name) → Skips s → OfSlot S s b → Many n (quorum n) (Without W b)
   pub picked : (s : ℕ) (a : Name) → has a → Picked W S has s a (pick s a)
   pub leads : (t : ℕ) (a : Name) → dec t ≡ committed a → has a × OfSlot S t a
   pub why : (s : ℕ) → Why (S .start) Commits Skips pick dec s
 
-module _ {W : World} {S : Slots} where
+module _ {n : ℕ} {step : StepRule} {W : World n step} {S : Slots} where
   abbrev pub boxOf : View W S → Box Name (S .start)
   boxOf X = record { Commits = X .Commits; Skips = X .Skips; pick = X .pick; dec = X .dec; why = X .why }
 
@@ -236,9 +235,9 @@ module _ {W : World} {S : Slots} where
 
   -- What is certified in the history of a vertex that a view holds, the view holds: a supporter of it is in that history.
   pub has-certified : (Y : View W S) (a b : Name) → Y .has a → CertifiedIn W a b → Y .has b
-  has-certified Y a b ha c = go (some-of (W .n) (quorum (W .n)) (Supported W (c .who) b) (omega arith) (c .certifies .supported))
+  has-certified Y a b ha c = go (some-of n (quorum n) (Supported W (c .who) b) (omega arith) (c .certifies .supported))
     where
-      go : (i : ℕ) × (i < W .n) × Supported W (c .who) b i → Y .has b
+      go : (i : ℕ) × (i < n) × Supported W (c .who) b i → Y .has b
       go (i, l, k) =
           let x = has-reached Y a _ ha (entry-step W a (c .who) i (c .reached) (c .certifies .is-in) (k .nonzero)) in
           Y .has-step _ b x (W .reference-step _ b (k .supports))
@@ -259,7 +258,7 @@ module _ {W : World} {S : Slots} where
     commit-anchor : (s t : ℕ) (b a : Name) → X .Commits s b → S .start s ≤ t → Y .dec t ≡ committed a → Y .pick s a ≡ committed b
     commit-anchor s t b a k l e = go (X .commits s b k) (Y .leads t a e)
       where
-        go : OfSlot S s b × Many (W .n) (quorum (W .n)) (CertifiedBy W b) → Y .has a × OfSlot S t a → Y .pick s a ≡ committed b
+        go : OfSlot S s b × Many n (quorum n) (CertifiedBy W b) → Y .has a × OfSlot S t a → Y .pick s a ≡ committed b
         go (sb, many) (ha, sa) = choice (Y .picked s a ha)
           where
             there : CertifiedIn W a b

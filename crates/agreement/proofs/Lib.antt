@@ -2,3 +2,4 @@ pub mod Boxes
 pub mod World
 pub mod Table
 pub mod Joint
+pub mod Prefix

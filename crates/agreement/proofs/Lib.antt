@@ -3,3 +3,4 @@ pub mod World
 pub mod Table
 pub mod Joint
 pub mod Prefix
+pub mod Agreement

@@ -4,3 +4,4 @@ pub mod Table
 pub mod Joint
 pub mod Prefix
 pub mod Agreement
+pub mod Shown

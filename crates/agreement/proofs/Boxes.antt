@@ -41,6 +41,12 @@ pub record Fit {N : Type 0} {start : ℕ → ℕ} (X Y : Box N start) : Type 0 w
   pub skip-anchor : (s t : ℕ) (a : N) → X .Skips s → start s ≤ t → Y .dec t ≡ committed a → Y .pick s a ≡ skipped
   pub anchor-anchor : (s t : ℕ) (a : N) → start s ≤ t → X .dec t ≡ committed a → Y .dec t ≡ committed a → X .pick s a ≡ Y .pick s a
 
+-- What X decides directly, Y decides, and Y's anchors decide: so it is where Y has seen all that X has seen.
+pub record Grows {N : Type 0} {start : ℕ → ℕ} (X Y : Box N start) : Type 0 where
+  pub commits : (s : ℕ) (b : N) → X .Commits s b → Decided (Y .dec s)
+  pub skips : (s : ℕ) → X .Skips s → Decided (Y .dec s)
+  pub picks : (s t : ℕ) (a : N) → Y .dec t ≡ committed a → Decided (Y .pick s a)
+
 -- From slot `top` on nothing is decided.
 abbrev pub Ends : {N : Type 0} {start : ℕ → ℕ} → Box N start → ℕ → Type 0
 Ends X top = (u : ℕ) → top ≤ u → X .dec u ≡ undecided
@@ -85,19 +91,13 @@ module _ {N : Type 0} {start : ℕ → ℕ} (later : (s : ℕ) → s < start s) 
   pub agree : (top : ℕ) → Ends X top → (s : ℕ) → Decided (X .dec s) → Decided (Y .dec s) → X .dec s ≡ Y .dec s
   agree top end s hx hy = within top s top end (omega arith) hx hy
 
-  -- ---- growth: Y has seen all that X has seen
-
-  -- What X decides directly, Y decides, and Y's anchors decide.
-  pub record Grows : Type 0 where
-    pub commits : (s : ℕ) (b : N) → X .Commits s b → Decided (Y .dec s)
-    pub skips : (s : ℕ) → X .Skips s → Decided (Y .dec s)
-    pub picks : (s t : ℕ) (a : N) → Y .dec t ≡ committed a → Decided (Y .pick s a)
+  -- ---- growth
 
   abbrev Above : ℕ → Type 0
   Above s = (u : ℕ) → s < u → Decided (X .dec u) → Decided (Y .dec u)
 
-  -- Then what X decides, Y decides; alike, by `agree`.
-  pub grows : Grows → (top : ℕ) → Ends X top → (s : ℕ) → Decided (X .dec s) → Decided (Y .dec s)
+  -- Where Y grows from X, what X decides Y decides; alike, by `agree`.
+  pub grows : Grows X Y → (top : ℕ) → Ends X top → (s : ℕ) → Decided (X .dec s) → Decided (Y .dec s)
   grows g top end s₀ h₀ = up top s₀ (omega arith) h₀
     where
       -- Y's search for s cannot stop at an undecided slot: X has decided every slot up to its anchor

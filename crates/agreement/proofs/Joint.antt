@@ -33,7 +33,7 @@ use Rattle.rules.proofs.Decisions.{tell-decided}
 use Rattle.rules.proofs.Decide.{decisions-past}
 use Rattle.agreement.specs.Agreement.{told}
 use Rattle.agreement.proofs.World.{World, Geometry, View, alike}
-use Rattle.agreement.proofs.Table.{TableIn, Holds, SkipLaw, setting, view, view-dec}
+use Rattle.agreement.proofs.Table.{TableIn, Holds, SkipLaw, setting, view}
 
 -- ---- what a table brings to a world that shows it
 
@@ -147,20 +147,6 @@ module _ {n : ℕ} {step : StepRule} {W : World n step} {us ws : List Vertex} (T
   -- A slot that both have decided is decided alike, told by name.
   pub alike-in : (s : ℕ) → Decided (decisionAt (decisions (setting S skip step) n us) s) → Decided (decisionAt (decisions (setting S skip′ step) n ws) s)
       → told (setting S skip step) n us s ≡ told (setting S skip′ step) n ws s
-  unfolding tell
+  unfolding tell view
   alike-in s h k =
-      sym (view-dec T S skip G law s)
-      ∙ alike G X Y (S .upTo (highest us)) ends s (λ e. tell-decided _ _ h (sym (view-dec T S skip G law s) ∙ e)) (λ e. tell-decided _ _ k (sym (view-dec U S skip′ G law′ s) ∙ e))
-      ∙ view-dec U S skip′ G law′ s
-    where
-      X : View W S
-      X = view T S skip G law
-
-      Y : View W S
-      Y = view U S skip′ G law′
-
-      past : (u : ℕ) → S .upTo (highest us) ≤ u → told (setting S skip step) n us u ≡ undecided
-      past u l = ap (tell _) (decisions-past (setting S skip step) n us u l)
-
-      ends : (u : ℕ) → S .upTo (highest us) ≤ u → X .dec u ≡ undecided
-      ends u l = view-dec T S skip G law u ∙ past u l
+      alike G (view T S skip G law) (view U S skip′ G law′) (S .upTo (highest us)) (λ u l. ap (tell _) (decisions-past (setting S skip step) n us u l)) s (tell-decided _ _ h) (tell-decided _ _ k)

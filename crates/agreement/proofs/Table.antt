@@ -148,7 +148,7 @@ module _ {n : ℕ} {step : StepRule} {W : World n step} {vs : List Vertex} (T : 
       pub slotted : inSlot S s (at vs (find vs b)) ≡ true
       pub passes : directCommit n vs (at vs (find vs b)) ≡ true
 
-    commits : (s : ℕ) (b : Name) → Commit s b → OfSlot S s b × Many n (quorum n) (CertifiedBy W b)
+    pub commits : (s : ℕ) (b : Name) → Commit s b → OfSlot S s b × Many n (quorum n) (CertifiedBy W b)
     commits s b c = subst (λ x. OfSlot S s x × Many n (quorum n) (CertifiedBy W x)) (find-name vs b (c .held)) (
       slot-name s p (c .slotted),
       many-map n (quorum n) (Has vs (λ w. certifies n vs w (at vs p))) (CertifiedBy W (name p)) (λ i li h. certifier i h) (commit-is n vs (at vs p) (c .passes)),
@@ -184,7 +184,7 @@ module _ {n : ℕ} {step : StepRule} {W : World n step} {vs : List Vertex} (T : 
       abbrev pick : ℕ → Name → Decision Name
       pick s x = tell name (throughAnchor (setting S skip step) n vs s (find vs x))
 
-      leader-held : (t : ℕ) (x : Name) → dec t ≡ committed x → Holds vs x × OfSlot S t x
+      pub leader-held : (t : ℕ) (x : Name) → dec t ≡ committed x → Holds vs x × OfSlot S t x
       leader-held t x e = go (tell-committed name (decisionAt (decisions (setting S skip step) n vs) t) x e)
         where
           go : (p : ℕ) × (decisionAt (decisions (setting S skip step) n vs) t ≡ committed p) × (name p ≡ x) → Holds vs x × OfSlot S t x
@@ -193,7 +193,7 @@ module _ {n : ℕ} {step : StepRule} {W : World n step} {vs : List Vertex} (T : 
               let held : Holds vs (name p) = rw (find-at A p (h .0)) (h .0) in
               (subst (Holds vs) ex held, subst (OfSlot S t) ex (slot-name t p (h .1)))
 
-      why : (s : ℕ) → Why (S .start) Commit Skip pick dec s
+      pub why : (s : ℕ) → Why (S .start) Commit Skip pick dec s
       unfolding tell
       why s = go (because (setting S skip step) (G .later) A s)
         where
@@ -207,10 +207,10 @@ module _ {n : ℕ} {step : StepRule} {W : World n step} {vs : List Vertex} (T : 
               (ap (tell name) e ∙ ap (λ p. tell name (throughAnchor (setting S skip step) n vs s p)) (sym (find-at A a (leads (setting S skip step) (G .later) A t a g .0))))
           go (blocked t l f g e) = by-nothing t l (λ u h h′. ap (tell name) (f u h h′)) (ap (tell name) g) (ap (tell name) e)
 
-      picked : (s : ℕ) (x : Name) → Holds vs x → Picked W S (Holds vs) s x (pick s x)
+      pub picked : (s : ℕ) (x : Name) → Holds vs x → Picked W S (Holds vs) s x (pick s x)
       picked s x h = subst (λ y. Picked W S (Holds vs) s y (pick s x)) (find-name vs x h) (picks s (find vs x) h)
 
-      pub view : View W S
+      unfoldable pub view : View W S
       view = record {
         has = Holds vs;
         has-in = λ x h. subst (W .In) (find-name vs x h) (T .ins (find vs x) h);
@@ -231,8 +231,3 @@ module _ {n : ℕ} {step : StepRule} {W : World n step} {vs : List Vertex} (T : 
               let p = find vs x in
               let d = T .down p y h (follows .fro p y h (subst (λ z. step (W .vertex z) y ≡ true) (sym (find-name vs x h)) e)) in
               omega (arith, d)
-
-      -- what the view decides is what the table decides, told by name
-      pub view-dec : (s : ℕ) → view .dec s ≡ told (setting S skip step) n vs s
-      unfolding view
-      view-dec s = refl

@@ -20,18 +20,21 @@ use Rattle.rules.specs.Decision.{Decision, undecided, skipped, committed, Decid
 use Rattle.rules.specs.Support.{references}
 use Rattle.rules.specs.History.{Reaches, itself, onward, StepRule}
 use Rattle.rules.proofs.Names.{name-path}
+use Rattle.rules.proofs.Decisions.{committed-decided, skipped-decided}
 use Rattle.rules.proofs.Support.{references-is, is-references}
 use Rattle.agreement.proofs.Boxes.{Why, Box, Fit, Ends, agree}
 
 -- ---- the slots
 
--- What the argument needs of the slots: a search starts after its own slot, and at least three rounds up.
+-- What the argument needs of the slots: a search starts after its own slot, and at least three rounds up; and the slots of the rounds up to r
+-- are those below `upTo r`.
 pub record Geometry (S : Slots) : Type 0 where
   pub later : (s : ℕ) → s < S .start s
   pub three-up : (s t : ℕ) → S .start s ≤ t → S .roundOf s + 3 ≤ S .roundOf t
+  pub within : (s r : ℕ) → S .roundOf s ≤ r → s < S .upTo r
 
 pub one-leader : (n : ℕ) → Geometry (oneLeader n)
-one-leader n = record { later = λ s. omega arith; three-up = λ s t l. omega arith }
+one-leader n = record { later = λ s. omega arith; three-up = λ s t l. omega arith; within = λ s r l. omega arith }
 
 -- The name is that of a vertex of the slot.
 pub record OfSlot (S : Slots) (s : ℕ) (b : Name) : Type 0 where
@@ -241,6 +244,14 @@ module _ {n : ℕ} {step : StepRule} {W : World n step} {S : Slots} where
       go (i, l, k) =
           let x = has-reached Y a _ ha (entry-step W a (c .who) i (c .reached) (c .certifies .is-in) (k .nonzero)) in
           Y .has-step _ b x (W .reference-step _ b (k .supports))
+
+  -- an anchor decides
+  pub pick-decided : (Y : View W S) (s t : ℕ) (a : Name) → Y .dec t ≡ committed a → Decided (Y .pick s a)
+  pick-decided Y s t a e = go (Y .picked s a (Y .leads t a e .0))
+    where
+      go : Picked W S (Y .has) s a (Y .pick s a) → Decided (Y .pick s a)
+      go (chose b sb c q) = committed-decided q
+      go (nobody none q) = skipped-decided q
 
   module _ (G : Geometry S) (X Y : View W S) where
     commit-commit : (s : ℕ) (b c : Name) → X .Commits s b → Y .Commits s c → b ≡ c

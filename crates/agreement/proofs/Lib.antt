@@ -5,3 +5,4 @@ pub mod Joint
 pub mod Prefix
 pub mod Agreement
 pub mod Shown
+pub mod Growth

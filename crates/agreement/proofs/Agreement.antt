@@ -1,20 +1,20 @@
 -- Demand 3: under its premises two tables decide alike what both decide, and one written order begins the other.
 -- Said of any slots, step of a history and direct skip that have their laws, each box with a direct skip of its own; then of document 01's.
 -- Assumes nothing.
-use Prim.Native.Nat.{ℕ, _≤_, _<_}
+use Prim.Native.Nat.{ℕ, _<_}
 use mathlib.Core.Path.{_≡_, refl, sym, ap, _∙_}
 use mathlib.Core.Logic.{_⊎_, inl, inr, ⊎-elim}
 use mathlib.Core.Bool.{true}
-use mathlib.Core.List.{List, [], _∷_, List·Memᴰ·not-nil}
+use mathlib.Core.List.{List, [], List·Memᴰ·not-nil}
 use lib.ListN.{length}
 use Rattle.rules.specs.declared.Name.{Name}
 use Rattle.rules.specs.declared.Vertex.{Vertex}
 use Rattle.rules.specs.Authors.{Slots, oneLeader}
-use Rattle.rules.specs.Record.{Edition, first, recordAt, decode, records, vertices, at, nameOf}
+use Rattle.rules.specs.Record.{Edition, first, decode, records, vertices, at, nameOf}
 use Rattle.rules.specs.Support.{references, SkipRule, directSkip}
 use Rattle.rules.specs.History.{StepRule}
-use Rattle.rules.specs.Decide.{Setting, document01, decisions}
-use Rattle.rules.specs.Order.{order, writeFrom}
+use Rattle.rules.specs.Decide.{Setting, decisions}
+use Rattle.rules.specs.Order.{order}
 use Rattle.rules.proofs.Records.{vertices-length, vertices-at}
 use Rattle.rules.proofs.Accepted.{Accepted, accepted}
 use Rattle.rules.proofs.Support.{references-earlier}
@@ -23,7 +23,7 @@ use Rattle.rules.proofs.Decide.{leads}
 use Rattle.agreement.specs.Agreement.{Premises, Begins, written, Agree, Demand3}
 use Rattle.agreement.proofs.World.{World, Geometry, one-leader}
 use Rattle.agreement.proofs.Table.{TableIn, SkipLaw, setting, blank-law}
-use Rattle.agreement.proofs.Joint.{Together, joint, one-in, other-in, alike-in}
+use Rattle.agreement.proofs.Joint.{Together, one-in, other-in, alike-in}
 use Rattle.agreement.proofs.Prefix.{Ahead, orders}
 
 -- ---- what is asked of a step and of a direct skip

@@ -2,9 +2,9 @@
 -- This is what a merge of two tables gives each of them.
 -- Assumes nothing.
 use Prim.Native.Nat.{ℕ, suc, _-_, _≤_, _<_}
-use mathlib.Core.Path.{_≡_, refl, sym, ap, _∙_, subst}
-use mathlib.Core.Logic.{_⊎_, inl, inr, ⊎-elim}
-use mathlib.Core.Bool.{Bool, true, false, cond}
+use mathlib.Core.Path.{_≡_, sym, ap, _∙_}
+use mathlib.Core.Logic.{⊎-elim}
+use mathlib.Core.Bool.{true, cond}
 use mathlib.Core.List.{List}
 use native.Mathlib.Omega.{arith}
 use lib.ListN.{length, drop}
@@ -15,7 +15,7 @@ use Rattle.rules.specs.declared.Name.{Name}
 use Rattle.rules.specs.declared.Vertex.{Vertex}
 use Rattle.rules.specs.Authors.{quorum, Slots}
 use Rattle.rules.specs.Record.{at, nameOf, find}
-use Rattle.rules.specs.Decision.{Decision, undecided, skipped, committed, Decided, tell}
+use Rattle.rules.specs.Decision.{Decision, undecided, skipped, Decided, tell}
 use Rattle.rules.specs.Support.{blank, certifies, directCommit, SkipRule, directSkip}
 use Rattle.rules.specs.History.{StepRule}
 use Rattle.rules.specs.Decide.{Setting, highest, inSlot, anchor, indirect, decide, decisions, decisionAt}

@@ -1,14 +1,14 @@
 -- Two tables that pass, that agree on the names they share, and of whose authors at most f have two vertices in a round, see one world.
 -- So the rounds that both decide they decide alike.
 -- Assumes nothing.
-use Prim.Native.Nat.{ℕ, pred, _+_, _*_, _≤_, _<_}
-use mathlib.Core.Path.{_≡_, refl, sym, ap, _∙_, subst}
+use Prim.Native.Nat.{ℕ, _+_, _≤_, _<_}
+use mathlib.Core.Path.{_≡_, sym, ap, _∙_, subst}
 use mathlib.Core.Logic.{_⊎_, inl, inr, ⊎-elim, _≢_}
-use mathlib.Core.Bool.{Bool, true, false, cond}
+use mathlib.Core.Bool.{true, false, cond}
 use mathlib.Core.List.{List, _++_}
 use native.Mathlib.Omega.{arith}
 use lib.Dec.{ltb}
-use lib.ListN.{length, getD, length-append, List·getD-append}
+use lib.ListN.{length, length-append, List·getD-append}
 use lib.Seq.{getD-append-add}
 use borrow.Author.Tests.{eqb-true, eqb-false, eq-eqb, ltb-true, lt-ltb}
 use Rattle.folds.specs.Folds.{countTo}
@@ -20,10 +20,10 @@ use Rattle.rules.specs.declared.Name.{Name}
 use Rattle.rules.specs.declared.Vertex.{Vertex}
 use Rattle.rules.specs.Authors.{faults, quorum, Slots}
 use Rattle.rules.specs.Record.{noVertex, at, nameOf, entry, refers, entryName, find, vertexOf}
-use Rattle.rules.specs.Decision.{Decision, undecided, Decided, tell}
+use Rattle.rules.specs.Decision.{Decided, tell}
 use Rattle.rules.specs.Support.{references, SkipRule}
 use Rattle.rules.specs.History.{StepRule}
-use Rattle.rules.specs.Decide.{Setting, highest, decisions, decisionAt}
+use Rattle.rules.specs.Decide.{highest, decisions, decisionAt}
 use Rattle.rules.specs.Settlement.{equivocates, equivocators}
 use Rattle.rules.proofs.Names.{name-path}
 use Rattle.rules.proofs.Records.{find-name}
@@ -32,7 +32,7 @@ use Rattle.rules.proofs.History.{Downward}
 use Rattle.rules.proofs.Decisions.{tell-decided}
 use Rattle.rules.proofs.Decide.{decisions-past}
 use Rattle.agreement.specs.Agreement.{told}
-use Rattle.agreement.proofs.World.{World, Geometry, View, alike}
+use Rattle.agreement.proofs.World.{World, Geometry, alike}
 use Rattle.agreement.proofs.Table.{TableIn, Holds, SkipLaw, setting, view}
 
 -- ---- what a table brings to a world that shows it

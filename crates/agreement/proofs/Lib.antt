@@ -6,3 +6,4 @@ pub mod Prefix
 pub mod Agreement
 pub mod Shown
 pub mod Growth
+pub mod Settled

@@ -5,7 +5,7 @@ use Prim.Native.Nat.{ℕ, suc, _≤_, _<_}
 use mathlib.Core.Path.{_≡_, refl, sym, ap, ap₂, _∙_, subst}
 use mathlib.Core.Logic.{_⊎_, inl, inr, ⊎-elim}
 use mathlib.Core.Bool.{Bool, true, false, not}
-use mathlib.Core.List.{List, [], _∷_, _++_, map, map-append, append-nil, append-assoc, List·Memᴰ, List·Memᴰ·append-cases, Memᴰ·cast, Memᴰ·map, Memᴰ·of-map}
+use mathlib.Core.List.{List, [], _∷_, _++_, map-append, append-nil, append-assoc, List·Memᴰ, List·Memᴰ·append-cases, Memᴰ·cast, Memᴰ·map, Memᴰ·of-map}
 use native.Mathlib.Omega.{arith}
 use lib.ListN.{length, getD}
 use Rattle.folds.specs.Folds.{_and_, filterTo, member}
@@ -16,7 +16,7 @@ use Rattle.rules.specs.declared.Name.{Name}
 use Rattle.rules.specs.declared.Vertex.{Vertex}
 use Rattle.rules.specs.Record.{at, nameOf}
 use Rattle.rules.specs.Decision.{Decision, undecided, skipped, committed, Decided, tell}
-use Rattle.rules.specs.History.{Reaches, StepRule, history}
+use Rattle.rules.specs.History.{StepRule, history}
 use Rattle.rules.specs.Decide.{decisionAt}
 use Rattle.rules.specs.Order.{notYet, writeFrom, namesAt}
 use Rattle.rules.proofs.Names.{Below, below-irrefl, below-trans}

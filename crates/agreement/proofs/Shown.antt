@@ -1,8 +1,8 @@
 -- What the premises of demand 3 are worth: they can be met, by two tables of document 01 that differ and decide; and without one record to a
 -- name, or with f + 1 authors who have two vertices, two boxes can contradict each other, where all the other premises hold.
 -- Assumes nothing.
-use Prim.Native.Nat.{ℕ, suc, _≤_, _<_}
-use mathlib.Core.Path.{_≡_, refl, sym, ap, ap₂, _∙_}
+use Prim.Native.Nat.{ℕ, suc, _<_}
+use mathlib.Core.Path.{_≡_, refl, ap, ap₂, _∙_}
 use mathlib.Core.Logic.{_≢_}
 use mathlib.Core.Bool.{Bool, true, false, not, false≢true}
 use mathlib.Core.List.{List, [], _∷_, _++_}
@@ -17,14 +17,14 @@ use Rattle.rules.specs.declared.Checked.the-variants.{Passed}
 use Rattle.rules.specs.Authors.{faults}
 use Rattle.rules.specs.Record.{Edition, first, recordAt, records, vertices, at, nameOf, sameName}
 use Rattle.rules.specs.Check.{check}
-use Rattle.rules.specs.Decision.{Decision, undecided, skipped, committed, Decided, tell}
-use Rattle.rules.specs.Decide.{document01, decisions, decisionAt}
+use Rattle.rules.specs.Decision.{skipped, committed, tell}
+use Rattle.rules.specs.Decide.{document01}
 use Rattle.rules.specs.Settlement.{equivocators}
 use Rattle.rules.specs.Tables.{unsummed, summed, v, p2, p3}
 use Rattle.rules.specs.Open.{rules-open}
 use Rattle.rules.proofs.Names.{name-same}
 use Rattle.rules.proofs.Decisions.{skipped-apart, skipped-decided, committed-decided}
-use Rattle.agreement.specs.Agreement.{Premises, told, Agree}
+use Rattle.agreement.specs.Agreement.{Premises, told}
 use Rattle.agreement.specs.Pairs.{second, commits1, otherRecord, twoTwice, Contradict, WithoutOneRecord, WithoutFew}
 
 -- ---- one record to a name, as a test

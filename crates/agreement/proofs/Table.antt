@@ -1,10 +1,10 @@
 -- A table that passes, whose vertices stand in a world, is a view of that world: for any setting whose step is the world's, whose slots
 -- have the laws of `Geometry`, and whose direct skip has the law `SkipLaw`. Document 01's direct skip has it.
 -- Assumes nothing.
-use Prim.Native.Nat.{ℕ, suc, _≤_, _<_}
-use mathlib.Core.Path.{_≡_, refl, sym, ap, _∙_, subst}
+use Prim.Native.Nat.{ℕ, _≤_, _<_}
+use mathlib.Core.Path.{_≡_, sym, ap, _∙_, subst}
 use mathlib.Core.Logic.{_≢_}
-use mathlib.Core.Bool.{Bool, true, false}
+use mathlib.Core.Bool.{true, false}
 use mathlib.Core.List.{List}
 use native.Mathlib.Omega.{arith}
 use lib.ListN.{length, getD}
@@ -17,12 +17,12 @@ use Rattle.rules.specs.declared.Name.{Name}
 use Rattle.rules.specs.declared.Vertex.{Vertex}
 use Rattle.rules.specs.Authors.{quorum, Slots}
 use Rattle.rules.specs.Record.{at, nameOf, entry, entryName, find, vertexOf}
-use Rattle.rules.specs.Decision.{Decision, undecided, skipped, committed, tell}
+use Rattle.rules.specs.Decision.{Decision, skipped, committed, tell}
 use Rattle.rules.specs.Support.{references, supports, blank, certifies, directCommit, SkipRule, directSkip}
 use Rattle.rules.specs.History.{Reaches, StepRule, history}
 use Rattle.rules.specs.Decide.{Setting, inSlot, certifiedIn, throughAnchor, decisions, decisionAt}
 use Rattle.rules.proofs.Records.{find-name}
-use Rattle.rules.proofs.Accepted.{Accepted, earlier, find-at, vertexOf-at}
+use Rattle.rules.proofs.Accepted.{Accepted, earlier, find-at}
 use Rattle.rules.proofs.Support.{Has, references-is, blank-is, Backs, certifies-is, is-certifies, commit-is, skip-is}
 use Rattle.rules.proofs.History.{Downward, Follows, reached-at, history-length, history-sound, history-complete}
 use Rattle.rules.proofs.Decisions.{tell-committed}

@@ -16,7 +16,7 @@ use Rattle.rules.specs.declared.Name.{Name}
 use Rattle.rules.specs.declared.Vertex.{Vertex}
 use Rattle.rules.specs.Authors.{faults, quorum, Slots, oneLeader}
 use Rattle.rules.specs.Record.{nameOf, entry, entryName}
-use Rattle.rules.specs.Decision.{Decision, undecided, skipped, committed, Decided}
+use Rattle.rules.specs.Decision.{Decision, skipped, committed, Decided}
 use Rattle.rules.specs.Support.{references}
 use Rattle.rules.specs.History.{Reaches, itself, onward, StepRule}
 use Rattle.rules.proofs.Names.{name-path}

@@ -1,0 +1,134 @@
+-- Numbers by their bytes, the copy of a record and its sum, and what stands past an end.
+-- Assumes nothing.
+use Prim.Native.Nat.{ℕ, zero, suc, _+_, _-_, _*_, _/_, _%_, _≤_, _<_, min}
+use mathlib.Core.Path.{_≡_, refl, sym, ap, _∙_}
+use mathlib.Core.List.{List, [], _∷_, _++_}
+use mathlib.Core.Logic.{_⊎_, inl, inr, ⊎-elim}
+use native.Mathlib.Nat.{le-refl, le-step, not-suc-le-zero}
+use native.Mathlib.Numerals.{add-one, towards-suc}
+use native.Mathlib.Omega.{arith}
+use lib.Dec.{ltb}
+use borrow.Author.Tests.{ltb-true, ltb-false}
+use lib.ListN.{length, getD, take, drop, set, replicate, length-take, length-drop, length-set, drop-of-length-le}
+use lib.Seq.{take-all, getD-take, getD-drop, getD-set-same, getD-set-other, ext-getD}
+use Rattle.folds.specs.Folds.{sumTo, tabulate}
+use Rattle.folds.proofs.Lists.{length-tabulate, getD-tabulate, tabulate-same}
+use Rattle.folds.proofs.Tests.{by-test, compare}
+use Rattle.rules.specs.Record.{Edition, number, decode, sumOf, entry, first}
+use Rattle.record.specs.Copy.{copyOf}
+
+-- ---- past the end
+
+pub getD-past : (l : List ℕ) (i : ℕ) → length l ≤ i → getD l i 0 ≡ 0
+getD-past [] i h = refl
+getD-past (x ∷ l) zero h = absurd (not-suc-le-zero h)
+getD-past (x ∷ l) (suc i) h = getD-past l i (omega arith)
+
+pub getD-take-past : (n : ℕ) (l : List ℕ) (i : ℕ) → n ≤ i → getD (take n l) i 0 ≡ 0
+getD-take-past n l i h = getD-past (take n l) i (simp length-take (omega arith))
+
+-- the part from i on is all that follows
+pub part-rest : (b : List ℕ) (i : ℕ) → take (length b - i) (drop i b) ≡ drop i b
+part-rest b i = take-all (length b - i) (drop i b) (simp length-drop (omega arith))
+
+-- and from the end on nothing follows
+pub none-rest : (b : List ℕ) (i : ℕ) → length b ≤ i → drop (length b) b ≡ drop i b
+none-rest b i h = drop-of-length-le b (le-refl (length b)) ∙ sym (drop-of-length-le b h)
+
+-- ---- numbers
+
+pub number-two : (b : List ℕ) (i : ℕ) → number 2 b i ≡ getD b i 0 + 256 * getD b (i + 1) 0
+unfolding number
+number-two b i = simp towards-suc (omega arith)
+
+pub number-four : (b : List ℕ) (i : ℕ) → number 4 b i ≡ getD b i 0 + 256 * getD b (i + 1) 0 + 65536 * getD b (i + 2) 0 + 16777216 * getD b (i + 3) 0
+unfolding number
+number-four b i = simp towards-suc (omega arith)
+
+-- a number of the bytes from i on is one of b, i bytes later
+later : (k : ℕ) (b : List ℕ) (i j : ℕ) → number k (drop i b) j ≡ number k b (i + j)
+unfolding number
+later zero b i j = refl
+later (suc k) b i j =
+    let e : i + suc j ≡ suc (i + j) = omega arith in
+    rw (getD-drop i b j 0, later k b i (suc j), e)
+
+pub number-rest : (k : ℕ) (b : List ℕ) (i : ℕ) → number k (drop i b) 0 ≡ number k b i
+number-rest k b i = let e : i + 0 ≡ i = omega arith in rw e at (later k b i 0)
+
+-- its first bytes, each for itself
+pub two-rest : (b r : List ℕ) (i x y : ℕ) → r ≡ drop i b → x ≡ getD r 0 0 → y ≡ getD r 1 0 → x + 256 * y ≡ number 2 b i
+two-rest b r i x y e p q = rw (p, q, e) (sym (number-two (drop i b) 0) ∙ number-rest 2 b i)
+
+pub four-rest : (b r : List ℕ) (i x y z w : ℕ) → r ≡ drop i b → x ≡ getD r 0 0 → y ≡ getD r 1 0 → z ≡ getD r 2 0 → w ≡ getD r 3 0
+    → x + 256 * y + 65536 * z + 16777216 * w ≡ number 4 b i
+four-rest b r i x y z w e p q s t = rw (p, q, s, t, e) (sym (number-four (drop i b) 0) ∙ number-rest 4 b i)
+
+-- ---- the copy
+
+pub copy-length : (E : Edition) (b : List ℕ) → length (copyOf E b) ≡ E .size
+unfolding copyOf
+copy-length E b = length-tabulate (λ i. getD b i 0) (E .size)
+
+pub copy-byte : (E : Edition) (b : List ℕ) (i : ℕ) → i < E .size → getD (copyOf E b) i 0 ≡ getD b i 0
+unfolding copyOf
+copy-byte E b i h = getD-tabulate (λ i. getD b i 0) (E .size) i 0 h
+
+-- a number that ends within the copy is that of b
+pub copy-number : (E : Edition) (b : List ℕ) (k i : ℕ) → i + k ≤ E .size → number k (copyOf E b) i ≡ number k b i
+unfolding number
+copy-number E b zero i h = refl
+copy-number E b (suc k) i h = rw (copy-byte E b i (omega arith), copy-number E b k (suc i) (omega arith))
+
+-- A copy is filled from its front: with i bytes filled it is the copy of the first i bytes.
+-- None are filled of zeros.
+pub copy-start : (b : List ℕ) → replicate 138 0 ≡ copyOf first (take 0 b)
+unfolding copyOf tabulate
+copy-start b = refl
+
+-- one byte more
+pub copy-next : (E : Edition) (b : List ℕ) (i : ℕ) → i < length b → i < E .size → set (copyOf E (take i b)) i (getD b i 0) ≡ copyOf E (take (i + 1) b)
+copy-next E b i h l = ext-getD 0 _ _ (simp (length-set, copy-length)) (λ k m. at k (rw (length-set, copy-length) at m) (compare k i))
+  where
+    at : (k : ℕ) → k < E .size → (k < i) ⊎ ((k ≡ i) ⊎ (i < k)) → getD (set (copyOf E (take i b)) i (getD b i 0)) k 0 ≡ getD (copyOf E (take (i + 1) b)) k 0
+    at k m (inl q) =
+        getD-set-other (copyOf E (take i b)) i k (getD b i 0) 0 (λ e. omega arith)
+        ∙ rw (copy-byte E (take i b) k m, copy-byte E (take (i + 1) b) k m, getD-take i b k 0 q, getD-take (i + 1) b k 0 (omega arith))
+    at k m (inr (inl q)) =
+        rw (q, copy-byte E (take (i + 1) b) i l, getD-take (i + 1) b i 0 (omega arith))
+        (getD-set-same (copyOf E (take i b)) i (getD b i 0) 0 (rw copy-length l))
+    at k m (inr (inr q)) =
+        getD-set-other (copyOf E (take i b)) i k (getD b i 0) 0 (λ e. omega arith)
+        ∙ rw (copy-byte E (take i b) k m, copy-byte E (take (i + 1) b) k m, getD-take-past i b k (omega arith), getD-take-past (i + 1) b k (omega arith))
+
+-- all that b has, or all that the copy holds
+pub copy-end : (E : Edition) (b : List ℕ) (n : ℕ) → n ≡ min (length b) (E .size) → copyOf E (take n b) ≡ copyOf E b
+unfolding copyOf
+copy-end E b n e = tabulate-same _ _ (E .size) (λ k l. by-test (ltb k n) (λ t. getD-take n b k 0 (ltb-true k n t)) (λ t. past k l (ltb-false k n t)))
+  where
+    past : (k : ℕ) → k < E .size → n ≤ k → getD (take n b) k 0 ≡ getD b k 0
+    past k l q = getD-take-past n b k q ∙ sym (getD-past b k (omega arith))
+
+-- ---- the sum
+
+pub sum-same : (f g : ℕ → ℕ) (k : ℕ) → ((i : ℕ) → i < k → f i ≡ g i) → sumTo f k ≡ sumTo g k
+unfolding sumTo
+sum-same f g zero h = refl
+sum-same f g (suc k) h = rw (sum-same f g k (λ i l. h i (le-step l)), h k (le-refl (suc k)))
+
+-- the copy has the sum of b
+pub copy-sum : (E : Edition) (b : List ℕ) → sumOf E (copyOf E b) ≡ sumOf E b
+unfolding sumOf
+copy-sum E b =
+    ap (λ n. n % 65536)
+    (sum-same (λ i. number 2 (copyOf E b) (2 * i)) (λ i. number 2 b (2 * i)) ((E .size - 2) / 2) (λ i l. copy-number E b 2 (2 * i) (omega arith)))
+
+-- ---- entries
+
+pub entry-within : (E : Edition) (b : List ℕ) (i : ℕ) → i < 31 → entry (decode E b) i ≡ number 4 b (8 + 4 * i)
+unfolding decode
+entry-within E b i h = getD-tabulate (λ i. number 4 b (8 + 4 * i)) 31 i 0 h
+
+pub entry-past : (E : Edition) (b : List ℕ) (i : ℕ) → 31 ≤ i → entry (decode E b) i ≡ 0
+unfolding decode
+entry-past E b i h = getD-past (tabulate (λ i. number 4 b (8 + 4 * i)) 31) i (rw length-tabulate h)

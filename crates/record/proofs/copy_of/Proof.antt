@@ -1,0 +1,64 @@
+-- `record::copy_of` meets its contract. The loop's invariant: with i bytes filled, it is the copy of the first i bytes of b.
+-- The measure is what is left to fill.
+-- Assumes nothing.
+use Prim.Native.Nat.{_-_, _≤_}
+use mathlib.Core.Path.{_≡_, _∙_}
+use lib.ListN.{take}
+use Rattle.rules.specs.Record.{first}
+use Rattle.record.specs.Copy.{copyOf}
+use Rattle.record.proofs.Laws.{copy-start, copy-next, copy-end}
+use native.Mathlib.Omega.{arith}
+use borrow.Author.Needs.{needs}
+use Rattle.record.proofs.copy_of.Statement.{statement}
+use Rattle.record.proofs.copy_of.Tie as tie
+
+abbrev Inv-loop : tie.InvT-loop
+Inv-loop b n c₀ i₀ c i = (i ≤ n) × (c ≡ copyOf first (take i b))
+
+abbrev μ-loop : tie.MeasureT-loop
+μ-loop b n c₀ i₀ c i = n - i
+
+smaller-requires : tie.Need-smaller-requires Inv-loop μ-loop
+smaller-requires c κs = search needs
+
+loop-holds : tie.Need-loop-holds Inv-loop μ-loop
+loop-holds c = (omega arith, copy-start (c .before .before .args .b .now))
+
+shared-slice-read-c : tie.Need-shared-slice-read-c Inv-loop μ-loop
+shared-slice-read-c c = search needs
+
+array-write-c : tie.Need-array-write-c Inv-loop μ-loop
+array-write-c c = search needs
+
+add-i : tie.Need-add-i Inv-loop μ-loop
+add-i c = search needs
+
+loop-less : tie.Need-loop-less Inv-loop μ-loop
+loop-less c = search needs
+
+loop-again : tie.Need-loop-again Inv-loop μ-loop
+loop-again c =
+    let l = c .before .before in
+    let b = l .before .before .before .args .b .now in
+    (omega arith, rw (l .loop .inv .1) (copy-next first b (l .loop .i) (omega arith) (omega arith)))
+
+returns : tie.Need-returns Inv-loop μ-loop
+returns c =
+    let l = c .before in
+    let e : l .loop .i ≡ l .before .smaller .result = omega arith in
+    l .loop .inv .1 ∙ copy-end first (l .before .before .before .args .b .now) (l .loop .i) (e ∙ l .before .smaller .ensures)
+
+pub copy-of-spec : {M : Type 1} → statement M
+copy-of-spec =
+    tie.close
+    (tie.spec
+    Inv-loop
+    μ-loop
+    smaller-requires
+    loop-holds
+    shared-slice-read-c
+    array-write-c
+    add-i
+    loop-less
+    loop-again
+    returns)

@@ -1,0 +1,29 @@
+-- `record::entry_of` meets its contract: an entry below 31 is the number that stands for it, and from 31 on there is none.
+-- Assumes nothing.
+use mathlib.Core.Path.{sym, _∙_}
+use native.Mathlib.Omega.{arith}
+use Rattle.rules.specs.Record.{first}
+use Rattle.record.proofs.Laws.{entry-within, entry-past}
+use borrow.Author.Needs.{needs}
+use Rattle.record.proofs.entry_of.Statement.{statement}
+use Rattle.record.proofs.entry_of.Tie as tie
+
+mul-u32-at : tie.Need-mul-u32-at
+mul-u32-at c = search needs
+
+add-u32-at : tie.Need-add-u32-at
+add-u32-at c = search needs
+
+u32-at-requires : tie.Need-u32-at-requires
+u32-at-requires c κs = search needs
+
+returns : tie.Need-returns
+returns c =
+    let a = c .before .before .before .args in
+    c .u32-at .ensures ∙ sym (entry-within first (a .b .now) (a .i) (omega arith))
+
+returns-2 : tie.Need-returns-2
+returns-2 c = sym (entry-past first (c .before .before .args .b .now) (c .before .before .args .i) (c .if1 .left))
+
+pub entry-of-spec : {M : Type 1} → statement M
+entry-of-spec = tie.close (tie.spec mul-u32-at add-u32-at u32-at-requires returns returns-2)

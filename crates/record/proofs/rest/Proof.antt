@@ -1,0 +1,47 @@
+-- `record::rest` meets its contract: the part from i on is all that follows, and from the end on nothing does.
+-- Assumes nothing.
+use mathlib.Core.Path.{_∙_}
+use lib.ListN.{length}
+use Rattle.record.proofs.Laws.{part-rest, none-rest}
+use borrow.Author.Needs.{needs}
+use Rattle.record.proofs.rest.Statement.{statement}
+use Rattle.record.proofs.rest.Tie as tie
+
+sub-result : tie.Need-sub-result
+sub-result c = search needs
+
+part-result-start : tie.Need-part-result-start
+part-result-start c = search needs
+
+part-result-end : tie.Need-part-result-end
+part-result-end c = search needs
+
+returns : tie.Need-returns
+returns c = part-rest (c .before .before .args .b .now) (c .before .before .args .i)
+
+sub-result-2 : tie.Need-sub-result-2
+sub-result-2 c = search needs
+
+part-result-start-2 : tie.Need-part-result-start-2
+part-result-start-2 c = search needs
+
+part-result-end-2 : tie.Need-part-result-end-2
+part-result-end-2 c = search needs
+
+returns-2 : tie.Need-returns-2
+returns-2 c =
+    let b = c .before .before .args .b .now in
+    part-rest b (length b) ∙ none-rest b (c .before .before .args .i) (c .before .if1 .left)
+
+pub rest-spec : {M : Type 1} → statement M
+rest-spec =
+    tie.close
+    (tie.spec
+    sub-result
+    part-result-start
+    part-result-end
+    returns
+    sub-result-2
+    part-result-start-2
+    part-result-end-2
+    returns-2)

@@ -1,0 +1,171 @@
+// One record, read from lent bytes. A read past the end is 0, so no function asks its caller for anything.
+ghost use mathlib.Core.Path.{_≡_};
+ghost use Prim.Native.Nat.{_+_, _-_, _*_, _<_, _≤_, min};
+ghost use lib.ListN.{getD, drop};
+ghost use Rattle.folds.specs.Folds.{tabulate};
+ghost use Rattle.record.specs.Copy.{copyOf};
+ghost use Rattle.rules.specs.Record.{number, first, decode as decoded, sumOf, nameOf, entry};
+use rules::Name;
+use rules::Vertex;
+
+// Where each field starts.
+const ROUND: usize = 0;
+
+const MARK: usize = 4;
+
+const REFS: usize = 8;
+
+const BATCHES: usize = 132;
+
+const AUTHOR: usize = 134;
+
+const PADDING: usize = 135;
+
+const SUM: usize = 136;
+
+// The bytes are joined here, by value: a parameter's range is known from its type, so no cast and no sum is left to prove.
+fn join_two(a: u8, b: u8) -> u16
+    ensures { λ r. ⌜ r ≡ a + 256 * b ⌝ }
+{
+    (a as u16) + (b as u16) * 256
+}
+
+fn join_four(a: u8, b: u8, c: u8, d: u8) -> u32
+    ensures { λ r. ⌜ r ≡ a + 256 * b + 65536 * c + 16777216 * d ⌝ }
+{
+    (a as u32) + (b as u32) * 256 + (c as u32) * 65536 + (d as u32) * 16777216
+}
+
+// n minus k, and 0 where k is more.
+fn minus(n: usize, k: usize) -> usize
+    ensures { λ r. ⌜ r ≡ n - k ⌝ }
+{
+    if n < k { 0 } else { n - k }
+}
+
+// The smaller of two numbers.
+fn smaller(n: usize, k: usize) -> usize
+    ensures { λ r. ⌜ r ≡ min n k ⌝ }
+{
+    if n < k { n } else { k }
+}
+
+// The bytes from byte i on; none from the end on.
+fn rest(b: &[u8], i: usize) -> &[u8]
+    ensures { λ r. ⌜ now r ≡ drop i (now (b .entry)) ⌝ }
+{
+    if i < b.len() {
+        return &b[i..];
+    }
+    &b[b.len()..]
+}
+
+pub fn byte_at(b: &[u8], i: usize) -> u8
+    ensures { λ r. ⌜ r ≡ getD (now (b .entry)) i 0 ⌝ }
+{
+    if i < b.len() {
+        return b[i];
+    }
+    0
+}
+
+pub fn u16_at(b: &[u8], i: usize) -> u16
+    ensures { λ r. ⌜ r ≡ number 2 (now (b .entry)) i ⌝ }
+{
+    if i < minus(b.len(), 1) {
+        return join_two(b[i], b[i + 1]);
+    }
+    let r = rest(b, i);
+    join_two(byte_at(r, 0), byte_at(r, 1))
+}
+
+pub fn u32_at(b: &[u8], i: usize) -> u32
+    ensures { λ r. ⌜ r ≡ number 4 (now (b .entry)) i ⌝ }
+{
+    if i < minus(b.len(), 3) {
+        return join_four(b[i], b[i + 1], b[i + 2], b[i + 3]);
+    }
+    let r = rest(b, i);
+    join_four(byte_at(r, 0), byte_at(r, 1), byte_at(r, 2), byte_at(r, 3))
+}
+
+// A copy of the record as it stands, with 0 past the end of b.
+fn copy_of(b: &[u8]) -> [u8; 138]
+    ensures { λ r. ⌜ r ≡ copyOf first (now (b .entry)) ⌝ }
+{
+    let n = smaller(b.len(), 138);
+    let mut c = [0u8; 138];
+    let mut i: usize = 0;
+    while i < n {
+        c[i] = b[i];
+        i += 1;
+    }
+    c
+}
+
+// The 68 words before the sum, the padding among them. Every carry out of the top is dropped.
+fn sum_words(c: [u8; 138]) -> u16
+    ensures { λ r. ⌜ r ≡ sumOf first c ⌝ }
+{
+    let mut sum: u16 = 0;
+    let mut i: usize = 0;
+    while i < 68 {
+        let word = join_two(c[2 * i], c[2 * i + 1]);
+        sum = std::num::wrapping_add_u16(sum, word);
+        i += 1;
+    }
+    sum
+}
+
+pub fn sum_of(b: &[u8]) -> u16
+    ensures { λ r. ⌜ r ≡ sumOf first (now (b .entry)) ⌝ }
+{
+    sum_words(copy_of(b))
+}
+
+pub fn refs_of(b: &[u8]) -> [u32; 31]
+    ensures { λ r. ⌜ r ≡ decoded first (now (b .entry)) .refs ⌝ }
+{
+    let mut refs = [0u32; 31];
+    let mut i: usize = 0;
+    while i < 31 {
+        refs[i] = u32_at(b, REFS + 4 * i);
+        i += 1;
+    }
+    refs
+}
+
+pub fn decode(b: &[u8]) -> Vertex
+    ensures { λ r. ⌜ r ≡ decoded first (now (b .entry)) ⌝ }
+{
+    let refs = refs_of(b);
+    Vertex {
+        round: u32_at(b, ROUND),
+        mark: u32_at(b, MARK),
+        refs,
+        batches: u16_at(b, BATCHES),
+        author: byte_at(b, AUTHOR),
+        padding: byte_at(b, PADDING),
+        sum: u16_at(b, SUM),
+    }
+}
+
+pub fn name_of(b: &[u8]) -> Name
+    ensures { λ r. ⌜ r ≡ nameOf (decoded first (now (b .entry))) ⌝ }
+{
+    Name {
+        round: u32_at(b, ROUND),
+        author: byte_at(b, AUTHOR),
+        mark: u32_at(b, MARK),
+    }
+}
+
+// No entry stands from 31 on.
+pub fn entry_of(b: &[u8], i: usize) -> u32
+    ensures { λ r. ⌜ r ≡ entry (decoded first (now (b .entry))) i ⌝ }
+{
+    if i < 31 {
+        return u32_at(b, REFS + 4 * i);
+    }
+    0
+}

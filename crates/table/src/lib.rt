@@ -1,0 +1,1 @@
+// The check, the search and the lookup over a table of records.

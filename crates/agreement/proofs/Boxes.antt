@@ -1,4 +1,4 @@
--- Two boxes over numbered slots: what one decides and the other decides they decide alike. No vertex and no count is spoken of here;
+-- Two boxes over numbered slots: a slot that both decide they decide alike. No vertex and no count is spoken of here;
 -- `Fit` says what the direct rules and the anchors of the two have to obey, and `World` shows that they do.
 -- Assumes nothing.
 use Prim.Native.Nat.{ℕ, zero, suc, _+_, _≤_, _<_}

@@ -1,3 +1,5 @@
 pub mod Search
 pub mod Names
 pub mod Entries
+pub mod Earlier
+pub mod Records

@@ -49,14 +49,14 @@ pub searched-start : (t : List ℕ) (p : ℕ) (x : Name) → Searched t p x 0 p
 searched-start t p x = record { ordered = zero-le; within = le-refl p; low = λ j l. absurd (not-suc-le-zero l); high = λ j h l. absurd (omega arith) }
 
 -- a name below x is not x, and none above it is
-not-lower : (x y : Name) → Below y x → sameName y x ≡ false
+pub not-lower : (x y : Name) → Below y x → sameName y x ≡ false
 not-lower x y b = failed _ (λ s. below-irrefl y x (same-name y x s) b)
 
-not-higher : (x y : Name) → Below x y → sameName y x ≡ false
+pub not-higher : (x y : Name) → Below x y → sameName y x ≡ false
 not-higher x y b = failed _ (λ s. below-irrefl x y (sym (same-name y x s)) b)
 
 -- what is neither x nor below x is above it
-higher : (x y : Name) → sameName y x ≡ false → below y x ≡ false → Below x y
+pub higher : (x y : Name) → sameName y x ≡ false → below y x ≡ false → Below x y
 higher x y s b = go (below-total y x)
   where
     go : Below y x ⊎ ((y ≡ x) ⊎ Below x y) → Below x y

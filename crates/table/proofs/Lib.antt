@@ -3,3 +3,5 @@ pub mod Names
 pub mod Entries
 pub mod Earlier
 pub mod Records
+pub mod Calls
+pub mod Lookups

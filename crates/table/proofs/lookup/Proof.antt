@@ -1,3 +1,14 @@
+-- `table::lookup` meets its contract: the part that is returned is the record that is found, or the first zero bytes.
+-- Assumes nothing.
+use Prim.Native.Nat.{_*_}
+use mathlib.Core.Path.{_≡_, refl, sym, _∙_}
+use native.Mathlib.Omega.{arith}
+use lib.ListN.{drop}
+use Rattle.rules.specs.declared.Checked.the-variants.{Passed, Refused}
+use Rattle.rules.specs.Record.{first}
+use Rattle.rules.specs.Check.{check}
+use Rattle.table.specs.Part.{named}
+use Rattle.table.proofs.Lookups.{begin-refused, length-refused, begin-found, length-found, begin-none, length-none, own-bytes}
 use borrow.Author.Needs.{needs}
 use Rattle.table.proofs.lookup.Statement.{statement}
 use Rattle.table.proofs.lookup.Tie as tie
@@ -6,80 +17,85 @@ use Rattle.table.proofs.lookup.Lts as lts
 use Rattle.table.proofs.check.Reads as check-reads
 use Rattle.table.proofs.find.Reads as find-reads
 
--- src/lib.rt:314:9
 check-requires : tie.Need-check-requires
 check-requires c κs = search needs
 
 enum-told : tie.Need-enum-told
 enum-told c = search needs
 
--- src/lib.rt:317:39
 enum-told-2 : tie.Need-enum-told-2
 enum-told-2 c = search needs
 
--- src/lib.rt:317:39
 sub-result : tie.Need-sub-result
 sub-result c = search needs
 
--- src/lib.rt:317:39
 part-result-start : tie.Need-part-result-start
 part-result-start c = search needs
 
--- src/lib.rt:317:39
 part-result-end : tie.Need-part-result-end
 part-result-end c = search needs
 
--- src/lib.rt:317:32
 returns : tie.Need-returns
-returns c = ?
+returns c =
+    let o = c .before in
+    let a = o .before .before .before .before .args in
+    let t = a .table .now in
+    let x = named (a .round) (a .author) (a .mark) in
+    let r = o .enum-told2 .given .0 .0 in
+    let e : check first (a .n) t ≡ Refused r = sym (o .before .before .check .ensures) ∙ o .enum-told2 .given .1 in
+    rw (begin-refused (a .n) t x r e, length-refused (a .n) t x r e) (record { block = refl; place = omega arith; bytes = refl })
 
--- src/lib.rt:319:9
 find-requires : tie.Need-find-requires
 find-requires c κs = search needs
 
--- src/lib.rt:329:23
 mul-result : tie.Need-mul-result
 mul-result c = search needs
 
--- src/lib.rt:329:35
 mul-result-2 : tie.Need-mul-result-2
 mul-result-2 c = search needs
 
--- src/lib.rt:329:35
 add-result : tie.Need-add-result
 add-result c = search needs
 
--- src/lib.rt:329:16
 sub-result-2 : tie.Need-sub-result-2
 sub-result-2 c = search needs
 
--- src/lib.rt:329:16
 part-result-start-2 : tie.Need-part-result-start-2
 part-result-start-2 c = search needs
 
--- src/lib.rt:329:16
 part-result-end-2 : tie.Need-part-result-end-2
 part-result-end-2 c = search needs
 
--- src/lib.rt:329:9
 returns-2 : tie.Need-returns-2
-returns-2 c = ?
+returns-2 c =
+    let f = c .before .before in
+    let s = f .before .before .before .before .before in
+    let a = s .args in
+    let t = a .table .now in
+    let x = named (a .round) (a .author) (a .mark) in
+    let e : check first (a .n) t ≡ Passed = sym (f .before .before .before .check .ensures) ∙ f .before .enum-told .given .1 in
+    rw (begin-found (a .n) t x e (f .find .result) (f .find .ensures) (omega arith), length-found (a .n) t x e (f .find .result) (f .find .ensures) (omega arith))
+    (record { block = refl; place = omega arith; bytes = own-bytes (drop (138 * f .find .result) t) (f .find .result) })
 
--- src/lib.rt:331:5
 sub-result-3 : tie.Need-sub-result-3
 sub-result-3 c = search needs
 
--- src/lib.rt:331:5
 part-result-start-3 : tie.Need-part-result-start-3
 part-result-start-3 c = search needs
 
--- src/lib.rt:331:5
 part-result-end-3 : tie.Need-part-result-end-3
 part-result-end-3 c = search needs
 
--- src/lib.rt:310:1
 returns-3 : tie.Need-returns-3
-returns-3 c = ?
+returns-3 c =
+    let f = c .before .before in
+    let s = f .before .before .before .before .before in
+    let a = s .args in
+    let t = a .table .now in
+    let x = named (a .round) (a .author) (a .mark) in
+    let e : check first (a .n) t ≡ Passed = sym (f .before .before .before .check .ensures) ∙ f .before .enum-told .given .1 in
+    rw (begin-none (a .n) t x e (f .find .result) (f .find .ensures) (omega arith), length-none (a .n) t x e (f .find .result) (f .find .ensures) (omega arith))
+    (record { block = refl; place = omega arith; bytes = refl })
 
 pub lookup-spec : {M : Type 1} → statement M
 lookup-spec =

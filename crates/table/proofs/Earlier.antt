@@ -1,30 +1,28 @@
 -- Check 8: a name is looked for by halves among the first p records, whose names rise; and what the entries that name no earlier record make of it.
 -- Assumes nothing.
 use Prim.Native.Nat.{ℕ, pred, _+_, _-_, _/_, _≤_, _<_, zero-le}
-use mathlib.Core.Path.{_≡_, refl, sym, ap, _∙_, subst}
-use mathlib.Core.Logic.{_⊎_, inl, inr, ⊎-elim, _≢_}
-use mathlib.Core.Bool.{Bool, true, false, not, cond}
+use mathlib.Core.Path.{_≡_, refl, sym, _∙_, subst}
+use mathlib.Core.Logic.{_⊎_, inl, inr, _≢_}
+use mathlib.Core.Bool.{Bool, true, false, cond}
 use mathlib.Core.List.{List}
 use native.Mathlib.Omega.{arith}
 use native.Mathlib.Nat.{le-refl, not-suc-le-zero}
-use lib.Dec.{leb, ltb, eqb}
-use lib.ListN.{length, getD}
-use borrow.Author.Tests.{eqb-true, ltb-true, ltb-false, le-leb, lt-leb, eq-eqb, ne-eqb}
-use Rattle.folds.specs.Folds.{_and_, _or_, anyTo}
-use Rattle.folds.proofs.Tests.{by-test, not-both, failed, passed, and-right, and-true, and-false, or-neither, is-not, is-not-true}
-use Rattle.folds.proofs.Laws.{First, first-least, any-none, any-intro, any-cut}
+use lib.Dec.{leb, ltb}
+use lib.ListN.{length}
+use borrow.Author.Tests.{ltb-true, ltb-false, le-leb, lt-leb, eq-eqb, ne-eqb}
+use Rattle.folds.specs.Folds.{_and_, anyTo}
+use Rattle.folds.proofs.Tests.{by-test, not-both, failed, and-right, and-true, and-false, or-neither, is-not, is-not-true}
+use Rattle.folds.proofs.Laws.{first-least, any-none, any-intro, any-cut}
 use Rattle.rules.specs.declared.Name.{Name}
 use Rattle.rules.specs.declared.Vertex.{Vertex}
 use Rattle.rules.specs.Record.{first, records, vertices, at, nameOf, entry, refers, entryName, sameName, below, find}
-use Rattle.rules.specs.Check.{notAbove, entriesWrong, notEarlier}
+use Rattle.rules.specs.Check.{entriesWrong, notEarlier}
 use Rattle.rules.proofs.Names.{name-path, same-name, name-same, Below, below-is, is-below, below-trans, below-irrefl, below-total}
 use Rattle.rules.proofs.Records.{vertices-at, vertices-length, find-first}
 use Rattle.rules.proofs.Accepted.{rising-to}
 use Rattle.table.specs.Search.{nameAt}
 use Rattle.table.specs.Ready.{Ready}
 use Rattle.table.specs.Part.{named}
-use Rattle.table.proofs.Names.{name-at}
-use Rattle.table.proofs.Search.{Halved, halved}
 
 -- The names of the first p records rise.
 abbrev pub Rise : List ℕ → ℕ → Type 0
@@ -73,8 +71,8 @@ module _ (t : List ℕ) (p : ℕ) (x : Name) (r : Rise t p) (lo hi m : ℕ) (is 
     ordered = omega arith;
     within = S .within;
     low = λ j h. by-test (ltb j m)
-      (λ e. not-lower x (nameAt t j) (below-trans _ _ _ (r j m (ltb-true j m e) m-low) (below-is _ _ b)))
-      (λ e. let q : j ≡ m = omega (arith, ltb-false j m e) in subst (λ i. sameName (nameAt t i) x ≡ false) (sym q) other);
+        (λ e. not-lower x (nameAt t j) (below-trans _ _ _ (r j m (ltb-true j m e) m-low) (below-is _ _ b)))
+        (λ e. let q : j ≡ m = omega (arith, ltb-false j m e) in subst (λ i. sameName (nameAt t i) x ≡ false) (sym q) other);
     high = S .high;
   }
 
@@ -84,8 +82,8 @@ module _ (t : List ℕ) (p : ℕ) (x : Name) (r : Rise t p) (lo hi m : ℕ) (is 
     within = omega (arith, S .within);
     low = S .low;
     high = λ j h h′. by-test (ltb m j)
-      (λ e. not-higher x (nameAt t j) (below-trans _ _ _ (higher x (nameAt t m) other b) (r m j (ltb-true m j e) h′)))
-      (λ e. let q : j ≡ m = omega (arith, ltb-false m j e) in subst (λ i. sameName (nameAt t i) x ≡ false) (sym q) other);
+        (λ e. not-higher x (nameAt t j) (below-trans _ _ _ (higher x (nameAt t m) other b) (r m j (ltb-true m j e) h′)))
+        (λ e. let q : j ≡ m = omega (arith, ltb-false m j e) in subst (λ i. sameName (nameAt t i) x ≡ false) (sym q) other);
   }
 
   pub searched-turn : (held : Bool) (lo′ hi′ : ℕ) → held ≡ below (nameAt t m) x → lo′ ≡ cond held (m + 1) lo → hi′ ≡ cond held hi m → Searched t p x lo′ hi′
@@ -124,50 +122,50 @@ module _ (t : List ℕ) (p : ℕ) (x : Name) (w : p < records first t) where
 -- ---- the entries
 
 -- Entry i of v names no record before p.
-abbrev pub stray : List ℕ → ℕ → Vertex → ℕ → Bool
-stray t p v i = refers v i and leb p (find (vertices first t) (entryName v i))
+abbrev pub missing : List ℕ → ℕ → Vertex → ℕ → Bool
+missing t p v i = refers v i and leb p (find (vertices first t) (entryName v i))
 
-stray-no : (t : List ℕ) (p : ℕ) (v : Vertex) (i : ℕ) → refers v i ≡ false → stray t p v i ≡ false
+missing-no : (t : List ℕ) (p : ℕ) (v : Vertex) (i : ℕ) → refers v i ≡ false → missing t p v i ≡ false
 unfolding _and_
-stray-no t p v i e = rw e
+missing-no t p v i e = rw e
 
 -- no reference
-pub stray-empty : (t : List ℕ) (p : ℕ) (v : Vertex) (i : ℕ) → entry v i ≡ 0 → stray t p v i ≡ false
-stray-empty t p v i e = stray-no t p v i (is-not-true (eq-eqb _ _ e))
+pub missing-empty : (t : List ℕ) (p : ℕ) (v : Vertex) (i : ℕ) → entry v i ≡ 0 → missing t p v i ≡ false
+missing-empty t p v i e = missing-no t p v i (is-not-true (eq-eqb _ _ e))
 
 -- the name that the code makes for entry i
 pub entry-named : (v : Vertex) (i : ℕ) → named (v .round - 1) i (entry v i) ≡ entryName v i
 entry-named v i = let e : v .round - 1 ≡ pred (v .round) = omega arith in name-path _ _ e refl refl
 
 module _ (n : ℕ) (t : List ℕ) (p : ℕ) (v : Vertex) (R : Ready n t p v) where
-  whole : notEarlier (vertices first t) p ≡ anyTo (stray t p v) 31
+  whole : notEarlier (vertices first t) p ≡ anyTo (missing t p v) 31
   unfolding notEarlier
   whole = rw (← R .is)
 
   -- an entry for author n or more is no reference
-  past : (i : ℕ) → n ≤ i → i < n + (31 - n) → stray t p v i ≡ false
+  past : (i : ℕ) → n ≤ i → i < n + (31 - n) → missing t p v i ≡ false
   unfolding entriesWrong
   past i l h =
       let few : n ≤ 31 = R .few in
       let none : anyTo (λ i. leb n i and refers v i) 31 ≡ false = or-neither _ _ (or-neither _ _ (R .entries) .1) .0 in
-      stray-no t p v i (and-false _ _ (any-none _ 31 none i (omega arith)) (le-leb n i l))
+      missing-no t p v i (and-false _ _ (any-none _ 31 none i (omega arith)) (le-leb n i l))
 
-  pub none-stray : anyTo (stray t p v) n ≡ false → notEarlier (vertices first t) p ≡ false
-  none-stray e =
+  pub none-missing : anyTo (missing t p v) n ≡ false → notEarlier (vertices first t) p ≡ false
+  none-missing e =
       let few : n ≤ 31 = R .few in
       let width : n + (31 - n) ≡ 31 = omega arith in
-      whole ∙ subst (λ k. anyTo (stray t p v) k ≡ false) width (any-cut (stray t p v) n (31 - n) past ∙ e)
+      whole ∙ subst (λ k. anyTo (missing t p v) k ≡ false) width (any-cut (missing t p v) n (31 - n) past ∙ e)
 
   module _ (i : ℕ) (x : Name) (is-named : x ≡ entryName v i) (refers-i : entry v i ≢ 0) where
     -- the name of entry i stands nowhere before p
-    pub some-stray : i < n → (lo hi : ℕ) → hi ≤ lo → Searched t p x lo hi → notEarlier (vertices first t) p ≡ true
-    some-stray l lo hi h S =
+    pub some-missing : i < n → (lo hi : ℕ) → hi ≤ lo → Searched t p x lo hi → notEarlier (vertices first t) p ≡ true
+    some-missing l lo hi h S =
         let few : n ≤ 31 = R .few in
         let f : p ≤ find (vertices first t) (entryName v i) = rw is-named at (found-nowhere t p x (R .within) lo hi h S) in
-        whole ∙ any-intro (stray t p v) 31 i (omega arith) (and-true _ _ (is-not (ne-eqb _ _ refers-i)) (le-leb _ _ f))
+        whole ∙ any-intro (missing t p v) 31 i (omega arith) (and-true _ _ (is-not (ne-eqb _ _ refers-i)) (le-leb _ _ f))
 
     -- it stands at m
-    pub not-stray : (m : ℕ) → m < p → sameName (nameAt t m) x ≡ true → stray t p v i ≡ false
-    not-stray m l e =
+    pub not-missing : (m : ℕ) → m < p → sameName (nameAt t m) x ≡ true → missing t p v i ≡ false
+    not-missing m l e =
         let f : find (vertices first t) (entryName v i) < p = rw is-named at (found-there t p x (R .within) m l e) in
         failed _ (λ s. not-both (and-right _ _ s) (lt-leb _ _ f))

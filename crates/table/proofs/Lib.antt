@@ -5,3 +5,4 @@ pub mod Earlier
 pub mod Records
 pub mod Calls
 pub mod Lookups
+pub mod Unique

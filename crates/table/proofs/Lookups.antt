@@ -1,17 +1,15 @@
 -- The lookup: in a table that passes the check the search by halves finds what `find` of the rules finds, and what the lookup answers then.
 -- Assumes nothing.
-use Prim.Native.Nat.{ℕ, _+_, _-_, _*_, _/_, _≤_, _<_, min}
-use mathlib.Core.Path.{_≡_, refl, sym, ap, _∙_, subst}
-use mathlib.Core.Logic.{_⊎_, inl, inr, ⊎-elim}
-use mathlib.Core.Bool.{Bool, true, false, not, cond}
+use Prim.Native.Nat.{ℕ, _*_, _/_, _≤_, _<_, min}
+use mathlib.Core.Path.{_≡_, refl, _∙_, subst}
+use mathlib.Core.Bool.{true, false, not}
 use mathlib.Core.List.{List}
 use native.Mathlib.Omega.{arith}
 use native.Mathlib.Nat.{le-refl}
-use lib.Dec.{leb, ltb}
-use lib.ListN.{length, take}
+use lib.Dec.{ltb}
+use lib.ListN.{length}
 use borrow.Author.Tests.{ltb-true, ltb-false, lt-leb, le-leb}
 use Rattle.folds.proofs.Tests.{by-test, not-both, failed, not-true, not-false}
-use Rattle.folds.specs.Folds.{firstTo}
 use Rattle.folds.proofs.Laws.{First, first-unique, first-is}
 use Rattle.rules.specs.declared.Name.{Name}
 use Rattle.rules.specs.declared.Refusal.{Refusal}
@@ -26,8 +24,7 @@ use Rattle.rules.proofs.Names.{Below, below-is, is-below, below-trans}
 use Rattle.rules.proofs.Records.{vertices-at, vertices-length, find-first}
 use Rattle.rules.proofs.Accepted.{Accepted, accepted, rising}
 use Rattle.table.specs.Search.{nameAt, placeOf, findBelow}
-use Rattle.table.proofs.Names.{name-at}
-use Rattle.table.proofs.Search.{Falls, halves-first, place-start, found-here, found-other, found-past}
+use Rattle.table.proofs.Search.{Falls, halves-first, found-here, found-other, found-past}
 use Rattle.table.proofs.Earlier.{Rise, not-lower, not-higher, higher}
 
 -- ---- what the search by halves finds where names rise
@@ -41,8 +38,8 @@ module _ (t : List ℕ) (x : Name) (r : Rise t (records first t)) where
 
   falls : Falls (λ p. below (nameAt t p) x) k
   falls i j l h e = by-test (ltb i j)
-    (λ b. failed _ (λ s. not-both (is-below _ _ (below-trans _ _ _ (r i j (ltb-true i j b) h) (below-is _ _ s))) e))
-    (λ b. let q : i ≡ j = omega (arith, ltb-false i j b) in subst (λ o. below (nameAt t o) x ≡ false) q e)
+      (λ b. failed _ (λ s. not-both (is-below _ _ (below-trans _ _ _ (r i j (ltb-true i j b) h) (below-is _ _ s))) e))
+      (λ b. let q : i ≡ j = omega (arith, ltb-false i j b) in subst (λ o. below (nameAt t o) x ≡ false) q e)
 
   place-first : First (λ p. not (below (nameAt t p) x)) k m
   unfolding placeOf
@@ -55,8 +52,8 @@ module _ (t : List ℕ) (x : Name) (r : Rise t (records first t)) where
   -- nor has one after it, unless the one at it has
   after-place : (i : ℕ) → m ≤ i → i < k → sameName (nameAt t m) x ≡ false → sameName (nameAt t i) x ≡ false
   after-place i l h s = by-test (ltb m i)
-    (λ b. not-higher x (nameAt t i) (below-trans _ _ _ above (r _ i (ltb-true _ i b) h)))
-    (λ b. let q : m ≡ i = omega (arith, ltb-false m i b) in subst (λ o. sameName (nameAt t o) x ≡ false) q s)
+      (λ b. not-higher x (nameAt t i) (below-trans _ _ _ above (r _ i (ltb-true _ i b) h)))
+      (λ b. let q : m ≡ i = omega (arith, ltb-false m i b) in subst (λ o. sameName (nameAt t o) x ≡ false) q s)
     where
       above : Below x (nameAt t m)
       above = higher x _ s (not-true _ (place-first .hit (omega arith)))
@@ -143,7 +140,3 @@ module _ (n : ℕ) (t : List ℕ) (x : Name) where
       pub answer-none : lookupAnswer first n t x ≡ answer.Refused Unnamed
       unfolding lookupAnswer lookupCheck _then_ _when_
       answer-none = rw (e, ← is-found, le-leb (length t / 138) p l)
-
--- a record's own bytes, as the code lends them
-pub own-bytes : (b : List ℕ) (p : ℕ) → take (138 * p + 138 - 138 * p) b ≡ take 138 b
-own-bytes b p = let e : 138 * p + 138 - 138 * p ≡ 138 = omega arith in rw e

@@ -1,17 +1,17 @@
 -- The test of which name is below, part by part; the name of the record at a position; and check 6 by the names of two records.
 -- Assumes nothing.
-use Prim.Native.Nat.{ℕ, pred, _+_, _-_, _*_, _/_, _≤_, _<_}
-use mathlib.Core.Path.{_≡_, refl, sym, ap, _∙_}
+use Prim.Native.Nat.{ℕ, pred, _+_, _-_, _*_, _<_}
+use mathlib.Core.Path.{_≡_, refl}
 use mathlib.Core.Bool.{Bool, true, false, not}
 use mathlib.Core.List.{List}
 use native.Mathlib.Omega.{arith}
-use lib.Dec.{ltb, eqb}
-use lib.ListN.{length, take, drop}
+use lib.Dec.{ltb}
+use lib.ListN.{take, drop}
 use borrow.Author.Tests.{eq-eqb, ne-eqb, lt-ltb, le-ltb}
 use Rattle.folds.specs.Folds.{_and_, _or_}
 use Rattle.rules.specs.declared.Name.{Name}
 use Rattle.rules.specs.declared.Vertex.{Vertex}
-use Rattle.rules.specs.Record.{first, recordAt, decode, records, vertices, at, nameOf, below}
+use Rattle.rules.specs.Record.{first, recordAt, records, vertices, below}
 use Rattle.rules.specs.Check.{notAbove}
 use Rattle.rules.proofs.Records.{vertices-at}
 use Rattle.table.specs.Search.{nameAt}
@@ -37,13 +37,16 @@ by-mark x y r a = rw (eq-eqb _ _ r, le-ltb (x .round) (y .round) (omega arith), 
 
 -- ---- the record at a position
 
--- the part of a table that holds it
-pub record-part : (t : List ℕ) (p : ℕ) → take (138 * p + 138 - 138 * p) (drop (138 * p) t) ≡ recordAt first t p
-unfolding recordAt
-record-part t p = let e : 138 * p + 138 - 138 * p ≡ 138 = omega arith in rw e
+-- the bytes that the code lends of it, from byte 138 p on: as many as a record has
+pub own-bytes : (b : List ℕ) (p : ℕ) → take (138 * p + 138 - 138 * p) b ≡ take 138 b
+own-bytes b p = let e : 138 * p + 138 - 138 * p ≡ 138 = omega arith in rw e
 
-pub name-at : (t : List ℕ) (p : ℕ) → p < records first t → nameOf (at (vertices first t) p) ≡ nameAt t p
-name-at t p l = ap nameOf (vertices-at first t p l)
+abbrev pub lent : List ℕ → ℕ → List ℕ
+lent t p = take (138 * p + 138 - 138 * p) (drop (138 * p) t)
+
+pub record-part : (t : List ℕ) (p : ℕ) → lent t p ≡ recordAt first t p
+unfolding recordAt
+record-part t p = own-bytes (drop (138 * p) t) p
 
 -- ---- check 6
 

@@ -1,16 +1,13 @@
 -- Checks 4 to 9 of one record, in order: what answers at each, and what is known of a record that reaches check 8.
 -- Assumes nothing.
-use Prim.Native.Nat.{ℕ, _+_, _-_, _*_, _≤_, _<_}
-use mathlib.Core.Path.{_≡_, refl, sym, ap, _∙_}
+use Prim.Native.Nat.{ℕ, _≤_, _<_}
+use mathlib.Core.Path.{_≡_, sym, ap, _∙_}
 use mathlib.Core.Logic.{_≢_}
-use mathlib.Core.Bool.{Bool, true, false, not}
+use mathlib.Core.Bool.{true, false}
 use mathlib.Core.List.{List}
 use native.Mathlib.Omega.{arith}
-use lib.Dec.{leb, ltb, eqb}
-use lib.ListN.{take, drop}
 use borrow.Author.Tests.{eqb-false, leb-true, eq-eqb, ne-eqb, lt-ltb, le-ltb}
-use Rattle.folds.specs.Folds.{_and_}
-use Rattle.folds.proofs.Tests.{and-left, and-right, or-neither, is-not, is-not-true}
+use Rattle.folds.proofs.Tests.{and-left, and-right, or-neither}
 use Rattle.rules.specs.declared.Vertex.{Vertex}
 use Rattle.rules.specs.declared.Refusal.the-variants.{Sum, Fields, Rising, Entries, Earlier, Round}
 use Rattle.rules.specs.declared.Checked.{Checked}
@@ -21,9 +18,9 @@ use Rattle.rules.specs.Refusals.{_when_, _then_, eachTo}
 use Rattle.rules.specs.Check.{sumDiffers, fieldsWrong, notAbove, entriesWrong, notEarlier, roundAbove, checkRecord}
 use Rattle.rules.proofs.Records.{vertices-at}
 use Rattle.rules.proofs.Refusals.{each-passed}
-use Rattle.rules.proofs.Accepted.{Fine, record-passed}
+use Rattle.rules.proofs.Accepted.{record-passed}
 use Rattle.table.specs.Ready.{Ready}
-use Rattle.table.proofs.Names.{record-part}
+use Rattle.table.proofs.Names.{lent, record-part}
 
 -- the check of the record at p, of the first edition
 abbrev pub checkAt : ℕ → List ℕ → ℕ → Checked
@@ -34,11 +31,7 @@ pub count-few : (n : ℕ) → isCount n ≡ true → n ≤ 31
 unfolding isCount
 count-few n e = leb-true n 31 (and-left _ _ (and-right _ _ e))
 
--- the bytes of the record at p, as the code lends them
-abbrev pub lent : List ℕ → ℕ → List ℕ
-lent t p = take (138 * p + 138 - 138 * p) (drop (138 * p) t)
-
--- decoded, they are the vertex at p
+-- the bytes that are lent, decoded, are the vertex at p
 pub decoded-at : (t : List ℕ) (p : ℕ) (v : Vertex) → p < records first t → v ≡ decode first (lent t p) → v ≡ at (vertices first t) p
 decoded-at t p v w e = e ∙ ap (decode first) (record-part t p) ∙ sym (vertices-at first t p w)
 

@@ -1,8 +1,7 @@
 -- The search by halves: its turns, and that it finds the first number at which a test that holds up to some number and fails from there on fails.
 -- Assumes nothing.
 use Prim.Native.Nat.{ℕ, zero, suc, _+_, _-_, _/_, _≤_, _<_, zero-le}
-use mathlib.Core.Path.{_≡_, refl, sym, ap, ap₂, _∙_, subst}
-use mathlib.Core.Logic.{_⊎_, inl, inr, ⊎-elim}
+use mathlib.Core.Path.{_≡_, refl, sym, _∙_}
 use mathlib.Core.Bool.{Bool, true, false, not, cond}
 use mathlib.Core.List.{List}
 use native.Mathlib.Omega.{arith}
@@ -47,7 +46,6 @@ module _ (p : ℕ → Bool) (lo hi m : ℕ) (is : m ≡ lo + (hi - lo) / 2) (l :
 -- what a turn of the loop leaves: past the middle where the test held there, and else down to it
 pub record Halved (lo hi lo′ hi′ : ℕ) : Type 0 where
   pub ordered : lo′ ≤ hi′
-  pub from : lo ≤ lo′
   pub within : hi′ ≤ hi
   pub less : hi′ - lo′ < hi - lo
 
@@ -59,13 +57,13 @@ module _ (held : Bool) (lo hi m lo′ hi′ : ℕ) (is : m ≡ lo + (hi - lo) / 
       up t =
           let a : lo′ ≡ m + 1 = rw t at e in
           let b : hi′ ≡ hi = rw t at f in
-          record { ordered = omega arith; from = omega arith; within = omega arith; less = omega arith }
+          record { ordered = omega arith; within = omega arith; less = omega arith }
 
       down : held ≡ false → Halved lo hi lo′ hi′
       down t =
           let a : lo′ ≡ lo = rw t at e in
           let b : hi′ ≡ m = rw t at f in
-          record { ordered = omega arith; from = omega arith; within = omega arith; less = omega arith }
+          record { ordered = omega arith; within = omega arith; less = omega arith }
 
   pub halves-turn : (p : ℕ → Bool) → held ≡ p m → halves p (hi - lo) lo hi ≡ halves p (hi′ - lo′) lo′ hi′
   halves-turn p q = by-test held up down

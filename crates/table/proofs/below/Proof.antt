@@ -4,8 +4,6 @@ use mathlib.Core.Path.{sym}
 use Rattle.table.proofs.Names.{by-round, by-author, by-mark}
 use Rattle.table.proofs.below.Statement.{statement}
 use Rattle.table.proofs.below.Tie as tie
-use Rattle.table.proofs.below.Reads as reads
-use Rattle.table.proofs.below.Lts as lts
 
 returns : tie.Need-returns
 returns c = sym (by-round _ _ (c .before .before .if1 .taken))

@@ -5,10 +5,6 @@ use Rattle.table.proofs.Calls.{refused-1, refused-2, refused-3, records
 use borrow.Author.Needs.{needs}
 use Rattle.table.proofs.check.Statement.{statement}
 use Rattle.table.proofs.check.Tie as tie
-use Rattle.table.proofs.check.Reads as reads
-use Rattle.table.proofs.check.Lts as lts
-use Rattle.table.proofs.check_records.Reads as check-records-reads
-use Rattle.table.proofs.is_count.Reads as is-count-reads
 
 is-count-requires : tie.Need-is-count-requires
 is-count-requires c κs = search needs

@@ -6,14 +6,6 @@ use Rattle.table.proofs.Records.{count-few, decoded-at, ready, refused-
 use borrow.Author.Needs.{needs}
 use Rattle.table.proofs.check_record.Statement.{statement}
 use Rattle.table.proofs.check_record.Tie as tie
-use Rattle.table.proofs.check_record.Reads as reads
-use Rattle.table.proofs.check_record.Lts as lts
-use Rattle.record.proofs.decode.Reads as decode-reads
-use Rattle.record.proofs.sum_of.Reads as sum-of-reads
-use Rattle.table.proofs.entries_wrong.Reads as entries-wrong-reads
-use Rattle.table.proofs.fields_wrong.Reads as fields-wrong-reads
-use Rattle.table.proofs.not_above.Reads as not-above-reads
-use Rattle.table.proofs.not_earlier.Reads as not-earlier-reads
 
 mul-sum-of : tie.Need-mul-sum-of
 mul-sum-of c = search needs

@@ -12,9 +12,6 @@ use native.Mathlib.Omega.{arith}
 use borrow.Author.Needs.{needs}
 use Rattle.table.proofs.check_records.Statement.{statement}
 use Rattle.table.proofs.check_records.Tie as tie
-use Rattle.table.proofs.check_records.Reads as reads
-use Rattle.table.proofs.check_records.Lts as lts
-use Rattle.table.proofs.check_record.Reads as check-record-reads
 
 abbrev Inv-loop : tie.InvT-loop
 Inv-loop n table k p₀ p = (p ≤ k) × (eachTo (checkAt n table) p ≡ Passed)

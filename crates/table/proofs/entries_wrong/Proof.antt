@@ -8,10 +8,6 @@ use Rattle.table.proofs.Entries.{entries-first, entries-high, entries-q
 use borrow.Author.Needs.{needs}
 use Rattle.table.proofs.entries_wrong.Statement.{statement}
 use Rattle.table.proofs.entries_wrong.Tie as tie
-use Rattle.table.proofs.entries_wrong.Reads as reads
-use Rattle.table.proofs.entries_wrong.Lts as lts
-use Rattle.table.proofs.filled.Reads as filled-reads
-use Rattle.table.proofs.quorum_of.Reads as quorum-of-reads
 
 filled-requires : tie.Need-filled-requires
 filled-requires c κs = search needs

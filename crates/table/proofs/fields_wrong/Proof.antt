@@ -5,8 +5,6 @@ use Rattle.folds.specs.Folds.{_or_}
 use Rattle.rules.specs.Check.{fieldsWrong}
 use Rattle.table.proofs.fields_wrong.Statement.{statement}
 use Rattle.table.proofs.fields_wrong.Tie as tie
-use Rattle.table.proofs.fields_wrong.Reads as reads
-use Rattle.table.proofs.fields_wrong.Lts as lts
 
 returns : tie.Need-returns
 unfolding fieldsWrong _or_

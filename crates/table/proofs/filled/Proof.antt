@@ -16,8 +16,6 @@ use native.Mathlib.Omega.{arith}
 use borrow.Author.Needs.{needs}
 use Rattle.table.proofs.filled.Statement.{statement}
 use Rattle.table.proofs.filled.Tie as tie
-use Rattle.table.proofs.filled.Reads as reads
-use Rattle.table.proofs.filled.Lts as lts
 
 -- entry i is a reference
 abbrev filled-at : List ℕ → ℕ → Bool

@@ -5,12 +5,6 @@ use Rattle.table.proofs.Search.{found-here, found-other, found-past}
 use borrow.Author.Needs.{needs}
 use Rattle.table.proofs.find.Statement.{statement}
 use Rattle.table.proofs.find.Tie as tie
-use Rattle.table.proofs.find.Reads as reads
-use Rattle.table.proofs.find.Lts as lts
-use Rattle.table.proofs.name_at.Reads as name-at-reads
-use Rattle.table.proofs.place_of.Reads as place-of-reads
-use Rattle.table.proofs.same.Reads as same-reads
-use Rattle.table.proofs.smaller.Reads as smaller-reads
 
 smaller-requires : tie.Need-smaller-requires
 smaller-requires c κs = search needs

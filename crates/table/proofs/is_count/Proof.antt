@@ -5,8 +5,6 @@ use Rattle.folds.specs.Folds.{_and_}
 use Rattle.rules.specs.Authors.{isCount}
 use Rattle.table.proofs.is_count.Statement.{statement}
 use Rattle.table.proofs.is_count.Tie as tie
-use Rattle.table.proofs.is_count.Reads as reads
-use Rattle.table.proofs.is_count.Lts as lts
 
 returns : tie.Need-returns
 unfolding isCount _and_

@@ -8,14 +8,11 @@ use Rattle.rules.specs.declared.Checked.the-variants.{Passed, Refused}
 use Rattle.rules.specs.Record.{first}
 use Rattle.rules.specs.Check.{check}
 use Rattle.table.specs.Part.{named}
-use Rattle.table.proofs.Lookups.{begin-refused, length-refused, begin-found, length-found, begin-none, length-none, own-bytes}
+use Rattle.table.proofs.Names.{own-bytes}
+use Rattle.table.proofs.Lookups.{begin-refused, length-refused, begin-found, length-found, begin-none, length-none}
 use borrow.Author.Needs.{needs}
 use Rattle.table.proofs.lookup.Statement.{statement}
 use Rattle.table.proofs.lookup.Tie as tie
-use Rattle.table.proofs.lookup.Reads as reads
-use Rattle.table.proofs.lookup.Lts as lts
-use Rattle.table.proofs.check.Reads as check-reads
-use Rattle.table.proofs.find.Reads as find-reads
 
 check-requires : tie.Need-check-requires
 check-requires c κs = search needs

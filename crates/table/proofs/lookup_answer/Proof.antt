@@ -10,10 +10,6 @@ use Rattle.table.proofs.Lookups.{answer-refused, answer-found, answer-n
 use borrow.Author.Needs.{needs}
 use Rattle.table.proofs.lookup_answer.Statement.{statement}
 use Rattle.table.proofs.lookup_answer.Tie as tie
-use Rattle.table.proofs.lookup_answer.Reads as reads
-use Rattle.table.proofs.lookup_answer.Lts as lts
-use Rattle.table.proofs.check.Reads as check-reads
-use Rattle.table.proofs.find.Reads as find-reads
 
 check-requires : tie.Need-check-requires
 check-requires c κs = search needs

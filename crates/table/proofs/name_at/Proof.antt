@@ -1,13 +1,9 @@
 -- `table::name_at` meets its contract: the part that is lent is the record at p.
 -- Assumes nothing.
-use mathlib.Core.Path.{_∙_}
 use Rattle.table.proofs.Names.{record-part}
 use borrow.Author.Needs.{needs}
 use Rattle.table.proofs.name_at.Statement.{statement}
 use Rattle.table.proofs.name_at.Tie as tie
-use Rattle.table.proofs.name_at.Reads as reads
-use Rattle.table.proofs.name_at.Lts as lts
-use Rattle.record.proofs.name_of.Reads as name-of-reads
 
 mul-name-of : tie.Need-mul-name-of
 mul-name-of c = search needs

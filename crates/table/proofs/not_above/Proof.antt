@@ -6,10 +6,6 @@ use mathlib.Core.Path.{sym, _∙_}
 use borrow.Author.Needs.{needs}
 use Rattle.table.proofs.not_above.Statement.{statement}
 use Rattle.table.proofs.not_above.Tie as tie
-use Rattle.table.proofs.not_above.Reads as reads
-use Rattle.table.proofs.not_above.Lts as lts
-use Rattle.table.proofs.below.Reads as below-reads
-use Rattle.table.proofs.name_at.Reads as name-at-reads
 
 returns : tie.Need-returns
 returns c = sym (first-above _ _ (c .if1 .taken))

@@ -2,8 +2,8 @@
 -- The inner one's: of the records before p none below lo and none from hi on has the name that is looked for.
 -- The measures are the entries and the records that are left.
 -- Assumes nothing.
-use Prim.Native.Nat.{ℕ, _+_, _-_, _/_, _≤_, _<_}
-use mathlib.Core.Path.{_≡_, refl, sym, _∙_}
+use Prim.Native.Nat.{_+_, _-_, _/_, _≤_, _<_}
+use mathlib.Core.Path.{_≡_, refl, sym}
 use mathlib.Core.Logic.{⊎-elim}
 use mathlib.Core.Bool.{true, false}
 use Rattle.folds.specs.Folds.{anyTo}
@@ -12,18 +12,11 @@ use Rattle.rules.specs.Record.{entry, sameName, below}
 use Rattle.table.specs.Search.{nameAt}
 use Rattle.table.specs.Part.{named}
 use Rattle.table.proofs.Search.{halved}
-use Rattle.table.proofs.Earlier.{rise, Searched, searched-start, searched-turn, stray, stray-empty, entry-named, none-stray, some-stray, not-stray}
+use Rattle.table.proofs.Earlier.{rise, Searched, searched-start, searched-turn, missing, missing-empty, entry-named, none-missing, some-missing, not-missing}
 use native.Mathlib.Omega.{arith}
 use borrow.Author.Needs.{needs}
 use Rattle.table.proofs.not_earlier.Statement.{statement}
 use Rattle.table.proofs.not_earlier.Tie as tie
-use Rattle.table.proofs.not_earlier.Reads as reads
-use Rattle.table.proofs.not_earlier.Lts as lts
-use Rattle.table.proofs.below.Reads as below-reads
-use Rattle.table.proofs.lowered.Reads as lowered-reads
-use Rattle.table.proofs.name_at.Reads as name-at-reads
-use Rattle.table.proofs.raised.Reads as raised-reads
-use Rattle.table.proofs.same.Reads as same-reads
 
 abbrev Inv-loop : tie.InvT-loop
 Inv-loop n table p v refs k i mark x lo₀ hi₀ lo hi = Searched table p x lo hi
@@ -32,7 +25,7 @@ abbrev μ-loop : tie.MeasureT-loop
 μ-loop n table p v refs k i mark x lo₀ hi₀ lo hi = hi - lo
 
 abbrev Inv-entries : tie.InvT-entries
-Inv-entries n table p v refs k i₀ i = (i ≤ k) × (anyTo (stray table p v) i ≡ false)
+Inv-entries n table p v refs k i₀ i = (i ≤ k) × (anyTo (missing table p v) i ≡ false)
 
 abbrev μ-entries : tie.MeasureT-entries
 μ-entries n table p v refs k i₀ i = k - i
@@ -108,25 +101,25 @@ entries-again c =
     let t = s .args .table .now in
     let i = e .entries .i in
     let v = s .args .v in
-    let none : stray t (s .args .p) v i ≡ false =
+    let none : missing t (s .args .p) v i ≡ false =
     ⊎-elim
     (λ w.
     let x = named (v .round - 1) i (entry v i) in
     let m = w .2 .lo + (w .2 .hi - w .2 .lo) / 2 in
     let low : m < s .args .p = omega (arith, w .2 .inv .within) in
     let found : sameName (nameAt t m) x ≡ true = rw (← w .4 .ensures, ← w .5 .ensures) (w .6 .taken) in
-    not-stray (s .args .n) t (s .args .p) v (s .pre) i x (entry-named v i) (w .0 .taken) m low found)
-    (λ w. stray-empty t (s .args .p) v i (w .left))
+    not-missing (s .args .n) t (s .args .p) v (s .pre) i x (entry-named v i) (w .0 .taken) m low found)
+    (λ w. missing-empty t (s .args .p) v i (w .left))
     (c .if2 .came)
     in
-    (omega arith, any-next (stray t (s .args .p) v) i none (e .entries .inv .1))
+    (omega arith, any-next (missing t (s .args .p) v) i none (e .entries .inv .1))
 
 returns : tie.Need-returns Inv-loop μ-loop Inv-entries μ-entries
 returns c =
     let e = c .before in
     let s = e .before .before .before in
     let all : e .entries .i ≡ s .args .n = omega arith in
-    sym (none-stray (s .args .n) (s .args .table .now) (s .args .p) (s .args .v) (s .pre) (rw all at (e .entries .inv .1)))
+    sym (none-missing (s .args .n) (s .args .table .now) (s .args .p) (s .args .v) (s .pre) (rw all at (e .entries .inv .1)))
 
 returns-2 : tie.Need-returns-2 Inv-loop μ-loop Inv-entries μ-entries
 returns-2 c =
@@ -135,7 +128,7 @@ returns-2 c =
     let s = e .before .before .before in
     let i = e .entries .i in
     let v = s .args .v in
-    sym (some-stray (s .args .n) (s .args .table .now) (s .args .p) v (s .pre) i (named (v .round - 1) i (entry v i)) (entry-named v i) (l .before .before .if2 .taken) (omega arith) (l .loop .lo) (l .loop .hi) (omega arith) (l .loop .inv))
+    sym (some-missing (s .args .n) (s .args .table .now) (s .args .p) v (s .pre) i (named (v .round - 1) i (entry v i)) (entry-named v i) (l .before .before .if2 .taken) (omega arith) (l .loop .lo) (l .loop .hi) (omega arith) (l .loop .inv))
 
 pub not-earlier-spec : {M : Type 1} → statement M
 not-earlier-spec =

@@ -13,12 +13,6 @@ use native.Mathlib.Omega.{arith}
 use borrow.Author.Needs.{needs}
 use Rattle.table.proofs.place_of.Statement.{statement}
 use Rattle.table.proofs.place_of.Tie as tie
-use Rattle.table.proofs.place_of.Reads as reads
-use Rattle.table.proofs.place_of.Lts as lts
-use Rattle.table.proofs.below.Reads as below-reads
-use Rattle.table.proofs.lowered.Reads as lowered-reads
-use Rattle.table.proofs.name_at.Reads as name-at-reads
-use Rattle.table.proofs.raised.Reads as raised-reads
 
 -- record p stands below x
 abbrev lower : List ℕ → Name → ℕ → Bool

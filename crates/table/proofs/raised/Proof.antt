@@ -3,8 +3,6 @@
 use borrow.Author.Needs.{needs}
 use Rattle.table.proofs.raised.Statement.{statement}
 use Rattle.table.proofs.raised.Tie as tie
-use Rattle.table.proofs.raised.Reads as reads
-use Rattle.table.proofs.raised.Lts as lts
 
 add-result : tie.Need-add-result
 add-result c = search needs

@@ -5,8 +5,6 @@ use Rattle.folds.specs.Folds.{_and_}
 use Rattle.rules.specs.Record.{sameName}
 use Rattle.table.proofs.same.Statement.{statement}
 use Rattle.table.proofs.same.Tie as tie
-use Rattle.table.proofs.same.Reads as reads
-use Rattle.table.proofs.same.Lts as lts
 
 returns : tie.Need-returns
 unfolding sameName _and_

@@ -1,17 +1,17 @@
 -- The laws of the folds: what they mean for all numbers below the bound, and the one step that a loop's turn takes.
 -- The steps of a loop are stated at `i + 1`, as its code counts.
 -- Assumes nothing.
-use Prim.Native.Nat.{ℕ, zero, suc, _+_, _≤_, _<_, zero-le}
+use Prim.Native.Nat.{ℕ, zero, suc, _+_, _-_, _≤_, _<_, zero-le}
 use mathlib.Core.Path.{_≡_, refl, sym, ap, _∙_, subst}
 use mathlib.Core.Logic.{_⊎_, inl, inr, ⊎-elim}
 use mathlib.Core.Bool.{Bool, true, false, not, cond, false≢true}
 use native.Mathlib.Nat.{le-refl, le-step, not-suc-le-zero, le-of-suc-le-suc, eq-or-lt-of-le, lt-irrefl}
 use native.Mathlib.Omega.{arith}
 use native.Mathlib.Numerals.{add-one}
-use lib.Dec.{ltb}
-use borrow.Author.Tests.{ltb-true, ltb-false}
+use lib.Dec.{leb, ltb}
+use borrow.Author.Tests.{ltb-true, ltb-false, lt-ltb, le-ltb, leb-true, le-leb}
 use Rattle.folds.specs.Folds.{_and_, _or_, bit, sumTo, countTo, anyTo, firstTo}
-use Rattle.folds.proofs.Tests.{by-test, not-both, failed, passed, or-cases, or-left, or-right, or-false}
+use Rattle.folds.proofs.Tests.{by-test, not-both, failed, passed, or-cases, or-left, or-right, or-false, and-left, and-right, and-true}
 
 -- ---- anyTo
 
@@ -176,6 +176,49 @@ any-cut p n k h = by-test (anyTo p n) (λ e. up (any-witness p n e) ∙ sym e) (
 
     below : (i : ℕ) → i < n + k → anyTo p n ≡ false → p i ≡ false
     below i l e = by-test (ltb i n) (λ t. any-none p n e i (ltb-true i n t)) (λ t. h i (ltb-false i n t) l)
+
+-- what passes is counted
+pub count-pos : (p : ℕ → Bool) (k i : ℕ) → i < k → p i ≡ true → 0 < countTo p k
+unfolding countTo
+count-pos p zero i l e = absurd (not-suc-le-zero l)
+count-pos p (suc k) i l e = ⊎-elim (λ q. let t : bit (p k) ≡ 1 = rw (← q, e) in omega arith) (λ h. omega (arith, count-pos p k i h e)) (eq-or-lt-of-le (le-of-suc-le-suc l))
+
+-- some number passes exactly when the count is above 0
+pub any-count : (p : ℕ → Bool) (k : ℕ) → anyTo p k ≡ ltb 0 (countTo p k)
+any-count p k = by-test (anyTo p k) (λ e. e ∙ sym (lt-ltb _ _ (some (any-witness p k e)))) (λ e. e ∙ sym (le-ltb _ _ (none e (countTo p k) refl)))
+  where
+    some : (i : ℕ) × (i < k) × (p i ≡ true) → 0 < countTo p k
+    some (i, l, t) = count-pos p k i l t
+
+    none : anyTo p k ≡ false → (m : ℕ) → countTo p k ≡ m → countTo p k ≤ 0
+    none e zero q = omega arith
+    none e (suc m) q = absurd (let x = count-witness p k (omega arith) in not-both (x .2) (any-none p k e (x .0) (x .1)))
+
+count-up : (p : ℕ → Bool) (n k : ℕ) → countTo p n ≤ countTo p (n + k)
+unfolding countTo
+count-up p n zero = let e : n + 0 ≡ n = omega arith in rw e (le-refl (countTo p n))
+count-up p n (suc k) = let e : n + suc k ≡ suc (n + k) = omega arith in rw e (omega (arith, count-up p n k))
+
+-- some number from n on passes exactly when more are counted below k than below n
+pub any-from : (p : ℕ → Bool) (n k : ℕ) → n ≤ k → anyTo (λ i. leb n i and p i) k ≡ ltb (countTo p n) (countTo p k)
+any-from p n k l = by-test (anyTo q k) (λ e. e ∙ sym (lt-ltb _ _ (more (any-witness q k e)))) (λ e. e ∙ sym (le-ltb _ _ (same e)))
+  where
+    q : ℕ → Bool
+    q i = leb n i and p i
+
+    up : (i j : ℕ) → i ≤ j → countTo p i ≤ countTo p j
+    up i j h = let e : i + (j - i) ≡ j = omega arith in subst (λ m. countTo p i ≤ countTo p m) e (count-up p i (j - i))
+
+    more : (i : ℕ) × (i < k) × (q i ≡ true) → countTo p n < countTo p k
+    more (i, li, t) =
+        let one : countTo p i + 1 ≡ countTo p (i + 1) = count-yes p i (countTo p i) (and-right _ _ t) refl in
+        omega (arith, one, up n i (leb-true n i (and-left _ _ t)), up (i + 1) k (omega arith))
+
+    same : anyTo q k ≡ false → countTo p k ≤ countTo p n
+    same e =
+        let whole : n + (k - n) ≡ k = omega arith in
+        let cut = count-cut p n (k - n) (λ i h h′. failed (p i) (λ t. not-both (and-true _ _ (le-leb n i h) t) (any-none q k e i (omega arith)))) in
+        subst (λ m. countTo p m ≤ countTo p n) whole (omega (arith, cut))
 
 -- ---- sumTo
 

@@ -40,7 +40,7 @@ pub record Accepted (n : ℕ) (vs : List Vertex) : Type 0 where
   pub few : n ≤ 31
   pub each : (p : ℕ) → p < length vs → Fine n vs p
 
-record-passed : (E : Edition) (n : ℕ) (t : List ℕ) (p : ℕ) → p < records E t → checkRecord E n t (vertices E t) p ≡ Passed → Fine n (vertices E t) p
+pub record-passed : (E : Edition) (n : ℕ) (t : List ℕ) (p : ℕ) → p < records E t → checkRecord E n t (vertices E t) p ≡ Passed → Fine n (vertices E t) p
 unfolding checkRecord
 record-passed E n t p l e =
     let e4 = then-both _ _ e in
@@ -70,6 +70,20 @@ accepted E n t e =
       each = λ p l. let l′ : p < records E t = rw (← vertices-length E t) l in record-passed E n t p l′ (each-passed _ (records E t) (e3 .1) p l′);
     }
 
+-- ---- names rise as far as check 6 is passed
+
+rises-to : (vs : List Vertex) (k : ℕ) → ((i : ℕ) → i < k → notAbove vs i ≡ false) → (p : ℕ) → suc p < k → Below (nameOf (at vs p)) (nameOf (at vs (suc p)))
+unfolding notAbove
+rises-to vs k h p l = below-is _ _ (not-false _ (and-false _ _ (h (suc p) l) (lt-ltb 0 (suc p) (omega arith))))
+
+pub rising-to : (vs : List Vertex) (k : ℕ) → ((i : ℕ) → i < k → notAbove vs i ≡ false) → (p q : ℕ) → p < q → q < k → Below (nameOf (at vs p)) (nameOf (at vs q))
+rising-to vs k h p zero l lq = absurd (not-suc-le-zero l)
+rising-to vs k h p (suc q) l lq =
+    ⊎-elim
+    (λ e. subst (λ (j : ℕ). Below (nameOf (at vs j)) (nameOf (at vs (suc q)))) (sym e) (rises-to vs k h q lq))
+    (λ l′. below-trans _ _ _ (rising-to vs k h p q l′ (omega arith)) (rises-to vs k h q lq))
+    (eq-or-lt-of-le (le-of-suc-le-suc l))
+
 -- ---- what the tests of one record say
 
 module _ {n : ℕ} {vs : List Vertex} (A : Accepted n vs) where
@@ -84,11 +98,6 @@ module _ {n : ℕ} {vs : List Vertex} (A : Accepted n vs) where
   pub author-low : (p : ℕ) → p < length vs → at vs p .author < n
   unfolding fieldsWrong
   author-low p l = leb-false _ _ (or-neither _ _ (or-neither _ _ (or-neither _ _ (A .each p l .fields) .1) .1) .1)
-
-  -- names rise by one step
-  pub rises : (p : ℕ) → suc p < length vs → Below (nameOf (at vs p)) (nameOf (at vs (suc p)))
-  unfolding notAbove
-  rises p l = below-is _ _ (not-false _ (and-false _ _ (A .each (suc p) l .above) (lt-ltb 0 (suc p) (omega arith))))
 
   -- a non-zero entry is one of the n
   pub entry-low : (p i : ℕ) → p < length vs → entry (at vs p) i ≢ 0 → i < n
@@ -134,12 +143,7 @@ module _ {n : ℕ} {vs : List Vertex} (A : Accepted n vs) where
 
   -- names rise strictly
   pub rising : (p q : ℕ) → p < q → q < length vs → Below (nameOf (at vs p)) (nameOf (at vs q))
-  rising p zero h l = absurd (not-suc-le-zero h)
-  rising p (suc q) h l =
-      ⊎-elim
-      (λ e. subst (λ (k : ℕ). Below (nameOf (at vs k)) (nameOf (at vs (suc q)))) (sym e) (rises q l))
-      (λ h′. below-trans _ _ _ (rising p q h′ (omega arith)) (rises q l))
-      (eq-or-lt-of-le (le-of-suc-le-suc h))
+  rising p q h l = rising-to vs (length vs) (λ i li. A .each i li .above) p q h l
 
   -- find by name gives the position
   pub find-at : (p : ℕ) → p < length vs → find vs (nameOf (at vs p)) ≡ p

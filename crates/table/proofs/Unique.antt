@@ -1,0 +1,40 @@
+-- Each public call has one result: any two results that meet its promise are equal. Of the lookup's references the block, the place in it and the bytes are equal.
+-- `Post` is a call's promise as it stands in its contract, so a weaker one would not pass here. No call changes what it is lent.
+-- Assumes nothing.
+use mathlib.Core.Path.{_≡_, sym, _∙_}
+use mathlib.Core.List.{List}
+use Prim.Native.Nat.{ℕ}
+use contract.Lifetimes.{Lfts}
+use denote.Ref.{RefT, ptr, now}
+use denote.Triple.Clauses.{AtExit}
+use borrow.Fn.Kinds.{PK, RK, Out, Dens, resT, endedOf}
+use Rattle.table.proofs.find.Kinds as find-kinds
+use Rattle.table.proofs.find.Reads as find
+use Rattle.table.proofs.check.Kinds as check-kinds
+use Rattle.table.proofs.check.Reads as check
+use Rattle.table.proofs.lookup.Kinds as lookup-kinds
+use Rattle.table.proofs.lookup.Reads as lookup
+use Rattle.table.proofs.lookup_answer.Kinds as lookup-answer-kinds
+use Rattle.table.proofs.lookup_answer.Reads as lookup-answer
+
+-- Two results that meet a promise, at the same arguments, are the same in the sense of S.
+abbrev pub Only : (n : ℕ) (ps : List (PK n)) (r : RK n) → ((κs : Lfts n) → resT r κs .Denot → resT r κs .Denot → Type 0) → Out n ps r → Type 0
+Only n ps r S promise = (κs : Lfts n) (a : Dens κs ps) (x y : resT r κs .Denot) (e f : AtExit (endedOf n ps r) κs) → promise κs a x e → promise κs a y f → S κs x y
+
+pub find-unique : Only 1 find-kinds.ps find-kinds.r (λ κs x y. x ≡ y) find.Post
+find-unique κs a x y e f p q = p ∙ sym q
+
+pub check-unique : Only 1 check-kinds.ps check-kinds.r (λ κs x y. x ≡ y) check.Post
+check-unique κs a x y e f p q = p ∙ sym q
+
+pub lookup-answer-unique : Only 1 lookup-answer-kinds.ps lookup-answer-kinds.r (λ κs x y. x ≡ y) lookup-answer.Post
+lookup-answer-unique κs a x y e f p q = p ∙ sym q
+
+-- the same place in memory, and the same bytes
+pub record SamePart (x y : RefT (List ℕ)) : Type 0 where
+  pub block : ptr x .0 ≡ ptr y .0
+  pub place : ptr x .1 ≡ ptr y .1
+  pub bytes : now x ≡ now y
+
+pub lookup-unique : Only 1 lookup-kinds.ps lookup-kinds.r (λ κs x y. SamePart x y) lookup.Post
+lookup-unique κs a x y e f p q = record { block = p .block ∙ sym (q .block); place = p .place ∙ sym (q .place); bytes = p .bytes ∙ sym (q .bytes) }

@@ -1,0 +1,18 @@
+-- What a function that fills a lent buffer promises.
+-- Assumes nothing.
+use Prim.Native.Nat.{ℕ}
+use mathlib.Core.Path.{_≡_}
+use mathlib.Core.Bool.{Bool, cond}
+use mathlib.Core.List.{List}
+use lib.Dec.{leb}
+use lib.ListN.{length}
+use Rattle.rules.specs.Settlement.{writtenOver}
+
+abbrev pub fits : List ℕ → List ℕ → Bool
+fits bytes old = leb (length bytes) (length old)
+
+-- The answer r and the buffer afterwards. Bytes that fit stand at its front, the rest is as before, and the answer is how many they are;
+-- where they do not fit, nothing is written and the answer is 0.
+pub record Fills (bytes old new : List ℕ) (r : ℕ) : Type 0 where
+  pub answer : r ≡ cond (fits bytes old) (length bytes) 0
+  pub buffer : new ≡ cond (fits bytes old) (writtenOver bytes old) old

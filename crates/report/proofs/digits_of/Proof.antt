@@ -62,7 +62,7 @@ returns : tie.Need-returns Inv-loop μ-loop
 returns c =
     let l = c .before in
     let e : l .loop .front ≡ 0 = omega arith in
-    (omega arith, rw (e, front-none) at (l .loop .inv .3))
+    record { whole = l .loop .inv .1; start = omega arith; digits = rw (e, front-none) at (l .loop .inv .3) }
 
 pub digits-of-spec : {M : Type 1} → statement M
 digits-of-spec =

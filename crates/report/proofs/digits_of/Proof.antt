@@ -1,4 +1,7 @@
-use Prim.Native.Nat.{_+_, _-_, _/_, _%_, _^_, _≤_, _<_}
+-- `report::digits_of` meets its contract. The loop's invariant: the digits of what stands in front, then those that are written, are the number's;
+-- and what stands in front has no more digits than there are places left. The measure is what stands in front.
+-- Assumes nothing.
+use Prim.Native.Nat.{_^_, _≤_, _<_}
 use mathlib.Core.Path.{_≡_, refl, sym, _∙_}
 use mathlib.Core.List.{_++_}
 use lib.ListN.{length, drop, length-set}
@@ -8,9 +11,6 @@ use native.Mathlib.Omega.{arith}
 use borrow.Author.Needs.{needs}
 use Rattle.report.proofs.digits_of.Statement.{statement}
 use Rattle.report.proofs.digits_of.Tie as tie
-use Rattle.report.proofs.digits_of.Reads as reads
-use Rattle.report.proofs.digits_of.Lts as lts
-use Rattle.report.proofs.digit_of.Reads as digit-of-reads
 
 abbrev Inv-loop : tie.InvT-loop
 Inv-loop x bytes₀ start₀ front₀ bytes start front =
@@ -19,45 +19,37 @@ Inv-loop x bytes₀ start₀ front₀ bytes start front =
 abbrev μ-loop : tie.MeasureT-loop
 μ-loop x bytes₀ start₀ front₀ bytes start front = front
 
--- src/lib.rt:69:17
 digit-of-requires : tie.Need-digit-of-requires Inv-loop μ-loop
 digit-of-requires c κs = search needs
 
--- src/lib.rt:69:5
 array-write-bytes : tie.Need-array-write-bytes Inv-loop μ-loop
 array-write-bytes c = search needs
 
--- src/lib.rt:72:5
 loop-holds : tie.Need-loop-holds Inv-loop μ-loop
 loop-holds c = (omega arith, refl, omega arith, rw (c .digit-of .ensures) (sym (decimal-last (c .before .args .x))))
 
--- src/lib.rt:73:9
 sub-start : tie.Need-sub-start Inv-loop μ-loop
 sub-start c = let l = c .before in place-left _ _ (c .loop-test .taken) (l .loop .inv .2)
 
--- src/lib.rt:74:24
 digit-of-requires-2 : tie.Need-digit-of-requires-2 Inv-loop μ-loop
 digit-of-requires-2 c κs = search needs
 
--- src/lib.rt:74:9
 array-write-bytes-2 : tie.Need-array-write-bytes-2 Inv-loop μ-loop
 array-write-bytes-2 c = search needs
 
--- src/lib.rt:72:5
 loop-less : tie.Need-loop-less Inv-loop μ-loop
 loop-less c = search needs
 
--- src/lib.rt:72:5
 loop-again : tie.Need-loop-again Inv-loop μ-loop
 loop-again c =
     let l = c .before .before in
-    let p : 0 < l .loop .start = place-left (l .loop .front) (l .loop .start) (omega arith) (l .loop .inv .2) in
-    (omega arith,
-    simp length-set (omega arith),
-    tenth (l .loop .front) (l .loop .start) p (l .loop .inv .2),
-    digit-put (l .loop .bytes) (l .loop .front) (l .loop .start) (c .digit-of2 .result) (omega arith) p (omega arith) (c .digit-of2 .ensures) ∙ l .loop .inv .3)
+    let p : 0 < l .loop .start = place-left (l .loop .front) (l .loop .start) (omega arith) (l .loop .inv .2) in (
+      omega arith,
+      simp length-set (omega arith),
+      tenth (l .loop .front) (l .loop .start) p (l .loop .inv .2),
+      digit-put (l .loop .bytes) (l .loop .front) (l .loop .start) (c .digit-of2 .result) (omega arith) p (omega arith) (c .digit-of2 .ensures) ∙ l .loop .inv .3,
+    )
 
--- src/lib.rt:64:1
 returns : tie.Need-returns Inv-loop μ-loop
 returns c =
     let l = c .before in

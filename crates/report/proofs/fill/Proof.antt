@@ -1,3 +1,5 @@
+-- `report::fill` meets its contract. The loop's invariant: the first i bytes of the line, then the buffer as it was. The measure is what is left of the line.
+-- Assumes nothing.
 use Prim.Native.Nat.{_-_, _≤_}
 use mathlib.Core.Path.{_≡_, refl}
 use mathlib.Core.List.{_++_}
@@ -8,8 +10,6 @@ use native.Mathlib.Omega.{arith}
 use borrow.Author.Needs.{needs}
 use Rattle.report.proofs.fill.Statement.{statement}
 use Rattle.report.proofs.fill.Tie as tie
-use Rattle.report.proofs.fill.Reads as reads
-use Rattle.report.proofs.fill.Lts as lts
 
 abbrev Inv-loop : tie.InvT-loop
 Inv-loop out₀ n bytes i₀ out i = (i ≤ n) × (length out ≡ length out₀) × (out ≡ take i bytes ++ drop i out₀)
@@ -17,44 +17,36 @@ Inv-loop out₀ n bytes i₀ out i = (i ≤ n) × (length out ≡ length out₀)
 abbrev μ-loop : tie.MeasureT-loop
 μ-loop out₀ n bytes i₀ out i = n - i
 
--- src/lib.rt:108:9
 returns : tie.Need-returns Inv-loop μ-loop
 returns c = fills-not (textOf (c .before .args .l)) _ (rw (text-length (c .before .pre)) (c .if1 .taken))
 
--- src/lib.rt:112:5
 loop-holds : tie.Need-loop-holds Inv-loop μ-loop
 loop-holds c = (omega arith, refl, refl)
 
--- src/lib.rt:113:18
 array-read-out : tie.Need-array-read-out Inv-loop μ-loop
 array-read-out c = search needs
 
--- src/lib.rt:113:9
 slice-write-out : tie.Need-slice-write-out Inv-loop μ-loop
 slice-write-out c = search needs
 
--- src/lib.rt:114:9
 add-i : tie.Need-add-i Inv-loop μ-loop
 add-i c = search needs
 
--- src/lib.rt:112:5
 loop-less : tie.Need-loop-less Inv-loop μ-loop
 loop-less c = search needs
 
--- src/lib.rt:112:5
 loop-again : tie.Need-loop-again Inv-loop μ-loop
 loop-again c =
     let l = c .before in
-    let s = l .before .before .before in
-    (omega arith,
-    simp length-set (l .loop .inv .1),
-    rw (l .loop .inv .2) (copy-next (s .args .l .bytes) (s .args .out .now) (l .loop .i) (rw (s .pre .whole) (omega arith)) (omega arith)))
+    let s = l .before .before .before in (
+      omega arith,
+      simp length-set (l .loop .inv .1),
+      rw (l .loop .inv .2) (copy-next (s .args .l .bytes) (s .args .out .now) (l .loop .i) (rw (s .pre .whole) (omega arith)) (omega arith)),
+    )
 
--- src/lib.rt:102:1
 same-length : tie.Need-same-length Inv-loop μ-loop
 same-length c = search needs
 
--- src/lib.rt:102:1
 returns-2 : tie.Need-returns-2 Inv-loop μ-loop
 unfolding textOf
 returns-2 c =

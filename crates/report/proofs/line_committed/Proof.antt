@@ -1,48 +1,55 @@
+-- `report::line_committed` meets its contract: the letter, the round, the word, the author and the mark in turn are the line.
+-- Assumes nothing.
+use mathlib.Core.Path.{_∙_}
+use Rattle.rules.specs.Program.{bytesOf}
+use Rattle.report.specs.Lines.{lineCommitted}
+use Rattle.report.specs.Text.{textOf}
+use Rattle.report.proofs.Text.{first-word, next-word, last-word}
 use borrow.Author.Needs.{needs}
 use Rattle.report.proofs.line_committed.Statement.{statement}
 use Rattle.report.proofs.line_committed.Tie as tie
-use Rattle.report.proofs.line_committed.Reads as reads
-use Rattle.report.proofs.line_committed.Lts as lts
-use Rattle.report.proofs.begun.Reads as begun-reads
-use Rattle.report.proofs.ended.Reads as ended-reads
-use Rattle.report.proofs.with_number.Reads as with-number-reads
-use Rattle.report.proofs.with_word.Reads as with-word-reads
 
--- src/lib.rt:208:29
 begun-requires : tie.Need-begun-requires
 begun-requires c κs = search needs
 
--- src/lib.rt:208:9
 with-number-requires : tie.Need-with-number-requires
 with-number-requires c κs = search needs
 
--- src/lib.rt:209:22
 slice-aggregate-with-word : tie.Need-slice-aggregate-with-word
 slice-aggregate-with-word c = search needs
 
--- src/lib.rt:209:5
 with-word-requires : tie.Need-with-word-requires
 with-word-requires c κs = search needs
 
--- src/lib.rt:210:5
 with-number-requires-2 : tie.Need-with-number-requires-2
 with-number-requires-2 c κs = search needs
 
--- src/lib.rt:211:5
 with-number-requires-3 : tie.Need-with-number-requires-3
 with-number-requires-3 c κs = search needs
 
--- src/lib.rt:212:5
 ended-requires : tie.Need-ended-requires
 ended-requires c κs = search needs
 
--- src/lib.rt:205:1
 same-length : tie.Need-same-length
 same-length c = search needs
 
--- src/lib.rt:205:1
 returns : tie.Need-returns
-returns c = ?
+unfolding bytesOf lineCommitted
+returns c =
+    let e = c .before .before in
+    let e4 = e .before .before in
+    let e3 = e4 .before in
+    let e2 = e3 .before in
+    let e1 = e2 .before .before in
+    let e0 = e1 .before in
+    rw
+    (first-word (e0 .begun .ensures) _
+    ∙ next-word (e1 .with-number .ensures .grown) _
+    ∙ next-word (e2 .with-word .ensures) _
+    ∙ next-word (e3 .with-number2 .ensures .grown) _
+    ∙ next-word (e4 .with-number3 .ensures .grown) _
+    ∙ last-word (textOf (e4 .with-number3 .result)))
+    (e .ended .ensures)
 
 pub line-committed-spec : {M : Type 1} → statement M
 line-committed-spec =

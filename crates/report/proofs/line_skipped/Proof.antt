@@ -1,40 +1,45 @@
+-- `report::line_skipped` meets its contract: the letter, the round and the word in turn are the line.
+-- Assumes nothing.
+use mathlib.Core.Path.{_∙_}
+use Rattle.rules.specs.Program.{bytesOf}
+use Rattle.report.specs.Lines.{lineSkipped}
+use Rattle.report.specs.Text.{textOf}
+use Rattle.report.proofs.Text.{first-word, next-word, last-word}
 use borrow.Author.Needs.{needs}
 use Rattle.report.proofs.line_skipped.Statement.{statement}
 use Rattle.report.proofs.line_skipped.Tie as tie
-use Rattle.report.proofs.line_skipped.Reads as reads
-use Rattle.report.proofs.line_skipped.Lts as lts
-use Rattle.report.proofs.begun.Reads as begun-reads
-use Rattle.report.proofs.ended.Reads as ended-reads
-use Rattle.report.proofs.with_number.Reads as with-number-reads
-use Rattle.report.proofs.with_word.Reads as with-word-reads
 
--- src/lib.rt:200:25
 begun-requires : tie.Need-begun-requires
 begun-requires c κs = search needs
 
--- src/lib.rt:200:9
 with-number-requires : tie.Need-with-number-requires
 with-number-requires c κs = search needs
 
--- src/lib.rt:201:24
 slice-aggregate-with-word : tie.Need-slice-aggregate-with-word
 slice-aggregate-with-word c = search needs
 
--- src/lib.rt:201:11
 with-word-requires : tie.Need-with-word-requires
 with-word-requires c κs = search needs
 
--- src/lib.rt:201:5
 ended-requires : tie.Need-ended-requires
 ended-requires c κs = search needs
 
--- src/lib.rt:197:1
 same-length : tie.Need-same-length
 same-length c = search needs
 
--- src/lib.rt:197:1
 returns : tie.Need-returns
-returns c = ?
+unfolding bytesOf lineSkipped
+returns c =
+    let e = c .before .before in
+    let e2 = e .before .before in
+    let e1 = e2 .before .before in
+    let e0 = e1 .before in
+    rw
+    (first-word (e0 .begun .ensures) _
+    ∙ next-word (e1 .with-number .ensures .grown) _
+    ∙ next-word (e2 .with-word .ensures) _
+    ∙ last-word (textOf (e2 .with-word .result)))
+    (e .ended .ensures)
 
 pub line-skipped-spec : {M : Type 1} → statement M
 line-skipped-spec =

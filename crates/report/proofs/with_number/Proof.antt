@@ -1,33 +1,25 @@
+-- `report::with_number` meets its contract: the part of the array that holds the digits is one piece.
+-- Assumes nothing.
 use Rattle.report.proofs.Text.{numbered}
 use borrow.Author.Needs.{needs}
 use Rattle.report.proofs.with_number.Statement.{statement}
 use Rattle.report.proofs.with_number.Tie as tie
-use Rattle.report.proofs.with_number.Reads as reads
-use Rattle.report.proofs.with_number.Lts as lts
-use Rattle.report.proofs.digits_of.Reads as digits-of-reads
-use Rattle.report.proofs.with_word.Reads as with-word-reads
 
--- src/lib.rt:93:9
 digits-of-requires : tie.Need-digits-of-requires
 digits-of-requires c κs = search needs
 
--- src/lib.rt:96:18
 sub-with-word : tie.Need-sub-with-word
 sub-with-word c = search needs
 
--- src/lib.rt:96:18
 part-with-word-start : tie.Need-part-with-word-start
 part-with-word-start c = search needs
 
--- src/lib.rt:96:18
 part-with-word-end : tie.Need-part-with-word-end
 part-with-word-end c = search needs
 
--- src/lib.rt:96:5
 with-word-requires : tie.Need-with-word-requires
 with-word-requires c κs = search needs
 
--- src/lib.rt:89:1
 returns : tie.Need-returns
 returns c = numbered (c .before .before .before .before .digits-of .ensures) (c .with-word .ensures)
 

@@ -1,24 +1,19 @@
+-- `report::with_word` meets its contract: two pieces in turn are one.
+-- Assumes nothing.
 use Rattle.report.proofs.Text.{grown-twice}
 use borrow.Author.Needs.{needs}
 use Rattle.report.proofs.with_word.Statement.{statement}
 use Rattle.report.proofs.with_word.Tie as tie
-use Rattle.report.proofs.with_word.Reads as reads
-use Rattle.report.proofs.with_word.Lts as lts
-use Rattle.report.proofs.with_bytes.Reads as with-bytes-reads
 
--- src/lib.rt:85:30
 slice-aggregate-with-bytes : tie.Need-slice-aggregate-with-bytes
 slice-aggregate-with-bytes c = search needs
 
--- src/lib.rt:85:16
 with-bytes-requires : tie.Need-with-bytes-requires
 with-bytes-requires c κs = search needs
 
--- src/lib.rt:85:5
 with-bytes-requires-2 : tie.Need-with-bytes-requires-2
 with-bytes-requires-2 c κs = search needs
 
--- src/lib.rt:81:1
 returns : tie.Need-returns
 returns c = grown-twice (c .before .with-bytes .ensures) (c .with-bytes2 .ensures)
 

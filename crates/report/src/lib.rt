@@ -168,8 +168,10 @@ fn position_of(r: Refusal) -> u64
 pub fn line_refused(r: Refusal, out: &mut [u8]) -> usize
     ensures { λ k. ⌜ Fills (lineX r) (now (out .entry)) (now (out .exit)) k ⌝ }
 {
-    let l = with_number(begun(b'X'), number_of(r));
-    ended(with_number(l, position_of(r)), out)
+    let number = number_of(r);
+    let position = position_of(r);
+    let l = with_number(begun(b'X'), number);
+    ended(with_number(l, position), out)
 }
 
 // `S records highest-round first-undecided written equivocators`

@@ -8,17 +8,17 @@ use borrow.Author.Needs.{needs}
 use Rattle.report.proofs.line_refused.Statement.{statement}
 use Rattle.report.proofs.line_refused.Tie as tie
 
-begun-requires : tie.Need-begun-requires
-begun-requires c κs = search needs
-
 number-of-requires : tie.Need-number-of-requires
 number-of-requires c κs = search needs
 
-with-number-requires : tie.Need-with-number-requires
-with-number-requires c κs = search needs
-
 position-of-requires : tie.Need-position-of-requires
 position-of-requires c κs = search needs
+
+begun-requires : tie.Need-begun-requires
+begun-requires c κs = search needs
+
+with-number-requires : tie.Need-with-number-requires
+with-number-requires c κs = search needs
 
 with-number-requires-2 : tie.Need-with-number-requires-2
 with-number-requires-2 c κs = search needs
@@ -34,11 +34,11 @@ unfolding bytesOf lineX
 returns c =
     let e = c .before .before in
     let e2 = e .before .before in
-    let e1 = e2 .before .before in
-    let e0 = e1 .before .before in
+    let e1 = e2 .before in
+    let e0 = e1 .before in
     rw (
-      ← e1 .before .number-of .ensures,
-      ← e2 .before .position-of .ensures,
+      ← e0 .before .before .number-of .ensures,
+      ← e0 .before .position-of .ensures,
       first-word (e0 .begun .ensures) _
           ∙ next-word (e1 .with-number .ensures .grown) _
           ∙ next-word (e2 .with-number2 .ensures .grown) _
@@ -50,10 +50,10 @@ pub line-refused-spec : {M : Type 1} → statement M
 line-refused-spec =
     tie.close
     (tie.spec
-    begun-requires
     number-of-requires
-    with-number-requires
     position-of-requires
+    begun-requires
+    with-number-requires
     with-number-requires-2
     ended-requires
     same-length

@@ -1,7 +1,7 @@
 -- A line that is put together piece by piece, and its copy in a lent buffer.
 -- Assumes nothing.
 use Prim.Native.Nat.{ℕ, _+_, _-_, _≤_, _<_}
-use mathlib.Core.Path.{_≡_, refl, sym, _∙_}
+use mathlib.Core.Path.{_≡_, refl, sym, ap, _∙_}
 use mathlib.Core.List.{List, [], _∷_, _++_, append-assoc}
 use native.Mathlib.Nat.{le-refl}
 use native.Mathlib.Numerals.{add-one}
@@ -54,9 +54,10 @@ first-word p xs = rw (p .text)
 pub next-word : {l r : Line} {x : List ℕ} → Grown l (32 ∷ x) r → (xs : List (List ℕ)) → line (textOf l) (x ∷ xs) ≡ line (textOf r) xs
 next-word {l} {r} {x} p xs = rw (p .text) (line-more (textOf l) x xs)
 
-pub last-word : (w : List ℕ) → line w [] ≡ w ++ 10 ∷ []
+-- When no word follows, the line ends. A buffer that it fills is filled by any bytes that are this line.
+pub last-word : (l : Line) {bytes old new : List ℕ} {r : ℕ} → bytes ≡ line (textOf l) [] → Fills (textOf l ++ 10 ∷ []) old new r → Fills bytes old new r
 unfolding line
-last-word w = refl
+last-word l e p = rw e p
 
 -- ---- the buffer
 
@@ -67,10 +68,12 @@ copy-next b d i h k =
     rw e (put-next (take i b) d i (getD b i 0) 0 (length-take-le i b (omega arith)) k)
 
 pub fills-not : (bytes old : List ℕ) → length old < length bytes → Fills bytes old old 0
-fills-not bytes old h = let e = lt-leb _ _ h in record { answer = rw e; buffer = rw e }
+fills-not bytes old h = let e = lt-leb _ _ h in record { answer = rw e; buffer = rw e; within = omega arith; part = refl }
 
 pub fills-so : (bytes old new : List ℕ) (r : ℕ) → length bytes ≡ r → r ≤ length old → new ≡ bytes ++ drop r old → Fills bytes old new r
 fills-so bytes old new r n h p =
     let q : length bytes ≤ length old = omega arith in
     let e = le-leb _ _ q in
-    record { answer = rw (e, n); buffer = rw (e, n) p }
+    let l : length new ≡ length bytes + (length old - r) = ap length p ∙ simp (length-append, length-drop) in
+    let w : r ≤ length new = omega arith in
+    record { answer = rw (e, n); buffer = rw (e, n) p; within = w; part = sym (length-take-le r new w) }

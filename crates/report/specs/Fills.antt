@@ -1,11 +1,11 @@
 -- What a function that fills a lent buffer promises.
 -- Assumes nothing.
-use Prim.Native.Nat.{ℕ}
+use Prim.Native.Nat.{ℕ, _≤_}
 use mathlib.Core.Path.{_≡_}
 use mathlib.Core.Bool.{Bool, cond}
 use mathlib.Core.List.{List}
 use lib.Dec.{leb}
-use lib.ListN.{length}
+use lib.ListN.{length, take}
 use Rattle.rules.specs.Settlement.{writtenOver}
 
 abbrev pub fits : List ℕ → List ℕ → Bool
@@ -16,3 +16,6 @@ fits bytes old = leb (length bytes) (length old)
 pub record Fills (bytes old new : List ℕ) (r : ℕ) : Type 0 where
   pub answer : r ≡ cond (fits bytes old) (length bytes) 0
   pub buffer : new ≡ cond (fits bytes old) (writtenOver bytes old) old
+  -- These two follow. They are stated so that the proof that a caller's `&out[..r]` needs finds them.
+  pub within : r ≤ length new
+  pub part : r ≡ length (take r new)

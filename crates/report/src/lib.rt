@@ -41,16 +41,16 @@ fn with_bytes(l: Line, w: &[u8]) -> Line
     requires { ⌜ Room l (length (now w)) ⌝ }
     ensures { λ r. ⌜ Grown l (now (w .entry)) r ⌝ }
 {
-    let n = l.len;
+    let at = l.len;
     let mut bytes = l.bytes;
     let mut i: usize = 0;
     while i < w.len() {
-        bytes[n + i] = w[i];
+        bytes[at + i] = w[i];
         i += 1;
     }
     Line {
         bytes,
-        len: n + w.len(),
+        len: at + w.len(),
     }
 }
 

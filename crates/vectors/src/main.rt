@@ -32,7 +32,7 @@ fn rest(b: &[u8], i: usize) -> &[u8] {
 // All but the last byte, or nothing.
 fn shortened(b: &[u8]) -> &[u8] {
     if 0 < b.len() {
-        return &b[..b.len() - 1];
+        return &b[0..b.len() - 1];
     }
     b
 }

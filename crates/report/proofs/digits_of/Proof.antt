@@ -29,7 +29,7 @@ loop-holds : tie.Need-loop-holds Inv-loop μ-loop
 loop-holds c = (omega arith, refl, omega arith, rw (c .digit-of .ensures) (sym (decimal-last (c .before .args .x))))
 
 sub-start : tie.Need-sub-start Inv-loop μ-loop
-sub-start c = let l = c .before in place-left _ _ (c .loop-test .taken) (l .loop .inv .2)
+sub-start c = let l = c .before in place-left (l .loop .front) (l .loop .start) (omega arith) (l .loop .inv .2)
 
 digit-of-requires-2 : tie.Need-digit-of-requires-2 Inv-loop μ-loop
 digit-of-requires-2 c κs = search needs

@@ -2,7 +2,6 @@
 -- Assumes nothing.
 use mathlib.Core.Path.{_∙_}
 use Rattle.rules.specs.Program.{bytesOf, lineX}
-use Rattle.report.specs.Text.{textOf}
 use Rattle.report.proofs.Text.{first-word, next-word, last-word}
 use borrow.Author.Needs.{needs}
 use Rattle.report.proofs.line_refused.Statement.{statement}
@@ -36,14 +35,12 @@ returns c =
     let e2 = e .before .before in
     let e1 = e2 .before in
     let e0 = e1 .before in
-    rw (
-      ← e0 .before .before .number-of .ensures,
-      ← e0 .before .position-of .ensures,
-      first-word (e0 .begun .ensures) _
-          ∙ next-word (e1 .with-number .ensures .grown) _
-          ∙ next-word (e2 .with-number2 .ensures .grown) _
-          ∙ last-word (textOf (e2 .with-number2 .result)),
-    )
+    last-word
+    (e2 .with-number2 .result)
+    (rw (← e0 .before .before .number-of .ensures, ← e0 .before .position-of .ensures)
+    (first-word (e0 .begun .ensures) _
+    ∙ next-word (e1 .with-number .ensures .grown) _
+    ∙ next-word (e2 .with-number2 .ensures .grown) _))
     (e .ended .ensures)
 
 pub line-refused-spec : {M : Type 1} → statement M

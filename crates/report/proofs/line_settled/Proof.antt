@@ -2,7 +2,6 @@
 -- Assumes nothing.
 use Rattle.rules.specs.Program.{bytesOf, lineS}
 use mathlib.Core.Path.{_∙_}
-use Rattle.report.specs.Text.{textOf}
 use Rattle.report.proofs.Text.{first-word, next-word, last-word}
 use borrow.Author.Needs.{needs}
 use Rattle.report.proofs.line_settled.Statement.{statement}
@@ -48,14 +47,14 @@ returns c =
     let e2 = e3 .before .before in
     let e1 = e2 .before .before in
     let e0 = e1 .before in
-    rw
+    last-word
+    (e5 .with-number5 .result)
     (first-word (e0 .begun .ensures) _
     ∙ next-word (e1 .with-number .ensures .grown) _
     ∙ next-word (e2 .with-number2 .ensures .grown) _
     ∙ next-word (e3 .with-number3 .ensures .grown) _
     ∙ next-word (e4 .with-number4 .ensures .grown) _
-    ∙ next-word (e5 .with-number5 .ensures .grown) _
-    ∙ last-word (textOf (e5 .with-number5 .result)))
+    ∙ next-word (e5 .with-number5 .ensures .grown) _)
     (e .ended .ensures)
 
 pub line-settled-spec : {M : Type 1} → statement M

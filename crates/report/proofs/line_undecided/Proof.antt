@@ -3,7 +3,6 @@
 use mathlib.Core.Path.{_∙_}
 use Rattle.rules.specs.Program.{bytesOf}
 use Rattle.report.specs.Lines.{lineUndecided}
-use Rattle.report.specs.Text.{textOf}
 use Rattle.report.proofs.Text.{first-word, next-word, last-word}
 use borrow.Author.Needs.{needs}
 use Rattle.report.proofs.line_undecided.Statement.{statement}
@@ -34,11 +33,11 @@ returns c =
     let e2 = e .before .before in
     let e1 = e2 .before .before in
     let e0 = e1 .before in
-    rw
+    last-word
+    (e2 .with-word .result)
     (first-word (e0 .begun .ensures) _
     ∙ next-word (e1 .with-number .ensures .grown) _
-    ∙ next-word (e2 .with-word .ensures) _
-    ∙ last-word (textOf (e2 .with-word .result)))
+    ∙ next-word (e2 .with-word .ensures) _)
     (e .ended .ensures)
 
 pub line-undecided-spec : {M : Type 1} → statement M

@@ -3,7 +3,6 @@
 use mathlib.Core.Path.{_∙_}
 use Rattle.rules.specs.Program.{bytesOf}
 use Rattle.report.specs.Lines.{lineNamed}
-use Rattle.report.specs.Text.{textOf}
 use Rattle.report.proofs.Text.{first-word, next-word, last-word}
 use borrow.Author.Needs.{needs}
 use Rattle.report.proofs.line_vertex.Statement.{statement}
@@ -44,12 +43,12 @@ returns c =
     let e2 = e3 .before .before in
     let e1 = e2 .before .before in
     let e0 = e1 .before .before in
-    rw
+    last-word
+    (e3 .with-number3 .result)
     (first-word (e0 .begun .ensures) _
     ∙ next-word (e1 .with-number .ensures .grown) _
     ∙ next-word (e2 .with-number2 .ensures .grown) _
-    ∙ next-word (e3 .with-number3 .ensures .grown) _
-    ∙ last-word (textOf (e3 .with-number3 .result)))
+    ∙ next-word (e3 .with-number3 .ensures .grown) _)
     (e .ended .ensures)
 
 pub line-vertex-spec : {M : Type 1} → statement M

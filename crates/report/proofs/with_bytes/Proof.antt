@@ -12,10 +12,10 @@ use Rattle.report.proofs.with_bytes.Statement.{statement}
 use Rattle.report.proofs.with_bytes.Tie as tie
 
 abbrev Inv-loop : tie.InvT-loop
-Inv-loop w n bytes₀ i₀ bytes i = (i ≤ length w) × (n + length w ≤ length bytes₀) × (bytes ≡ paste bytes₀ n w i)
+Inv-loop w at bytes₀ i₀ bytes i = (i ≤ length w) × (at + length w ≤ length bytes₀) × (bytes ≡ paste bytes₀ at w i)
 
 abbrev μ-loop : tie.MeasureT-loop
-μ-loop w n bytes₀ i₀ bytes i = length w - i
+μ-loop w at bytes₀ i₀ bytes i = length w - i
 
 loop-holds : tie.Need-loop-holds Inv-loop μ-loop
 loop-holds c =

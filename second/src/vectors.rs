@@ -180,7 +180,6 @@ fn p2() -> Vec<Vertex> {
 
 const MIDDLE: usize = 6;
 const LAST: usize = 11;
-const PLACES: [(&str, usize); 3] = [("first", 0), ("middle", MIDDLE), ("last", LAST)];
 
 /// P2 with one record changed, its sum right.
 fn changed(position: usize, how: impl FnOnce(&mut Vertex)) -> Vec<u8> {
@@ -210,6 +209,7 @@ pub fn vectors() -> Vec<Vector> {
     all.extend(earlier());
     all.extend(first_answers());
     all.extend(lookups());
+    all.extend(lookups_elsewhere());
     all
 }
 
@@ -220,6 +220,16 @@ fn checked(name: &str, n: u8, table: Vec<u8>) -> Vector {
         n,
         table,
     }
+}
+
+/// P2 with one record changed, its sum right, checked with n = 4.
+fn with(name: &str, position: usize, how: impl FnOnce(&mut Vertex)) -> Vector {
+    checked(name, 4, changed(position, how))
+}
+
+/// P2 in which the sum of one record is off, checked with n = 4.
+fn with_sum_off(name: &str, position: usize, by: u16) -> Vector {
+    checked(name, 4, sum_off(table_of(&p2()), position, by))
 }
 
 /// 1, and the smallest and the largest count that pass.
@@ -261,30 +271,20 @@ fn lengths() -> Vec<Vector> {
 
 /// 4.
 fn sums() -> Vec<Vector> {
-    let mut all: Vec<Vector> = PLACES
-        .iter()
-        .map(|&(place, at)| {
-            checked(
-                &format!("sum_wrong_{place}"),
-                4,
-                sum_off(table_of(&p2()), at, 1),
-            )
-        })
-        .collect();
     let mut padded = table_of(&p2());
     padded[MIDDLE * RECORD_BYTES + 135] = 1;
-    all.push(checked(
-        "sum_high_byte_wrong",
-        4,
-        sum_off(table_of(&p2()), MIDDLE, 256),
-    ));
-    all.push(checked("sum_leaves_padding_out", 4, padded));
     let carried = Vertex {
         batches: 65_535,
         ..vertex(1, 2, 65_535, [])
     };
-    all.push(checked("sum_drops_carries_passes", 4, table_of(&[carried])));
-    all
+    vec![
+        with_sum_off("sum_wrong_first", 0, 1),
+        with_sum_off("sum_wrong_middle", MIDDLE, 1),
+        with_sum_off("sum_wrong_last", LAST, 1),
+        with_sum_off("sum_high_byte_wrong", MIDDLE, 256),
+        checked("sum_leaves_padding_out", 4, padded),
+        checked("sum_drops_carries_passes", 4, table_of(&[carried])),
+    ]
 }
 
 /// 5.
@@ -297,143 +297,111 @@ fn fields() -> Vec<Vector> {
         ("author_n", |v| v.author = 4),
         ("author_255", |v| v.author = 255),
     ];
+    let places = [("first", 0), ("middle", MIDDLE), ("last", LAST)];
     let each = |(cause, how): Cause| {
-        PLACES.map(|(place, at)| checked(&format!("{cause}_{place}"), 4, changed(at, how)))
+        places.map(|(place, position)| with(&format!("{cause}_{place}"), position, how))
     };
     causes.into_iter().flat_map(each).collect()
 }
 
 /// 6. The first record cannot fail it.
 fn rising() -> Vec<Vector> {
-    let places = [("second", 1), ("middle", MIDDLE), ("last", LAST)];
-    let twice = places.map(|(place, at)| {
+    let same = |name: &str, position: usize| {
         let mut vertices = p2();
-        vertices[at] = vertices[at - 1].clone();
-        checked(&format!("same_name_{place}"), 4, table_of(&vertices))
-    });
-    let two = |name: &str, low: (u32, u8, u32), high: (u32, u8, u32)| {
-        let made = [high, low].map(|(round, author, mark)| vertex(round, author, mark, []));
-        checked(name, 4, table_of(&made))
+        vertices[position] = vertices[position - 1].clone();
+        checked(name, 4, table_of(&vertices))
     };
-    let mut all = Vec::from(twice);
-    all.push(checked(
-        "lower_round_last",
-        4,
-        changed(LAST, |v| v.round = 2),
-    ));
-    all.push(two("lower_author", (1, 0, 9), (1, 1, 1)));
-    all.push(two("lower_mark", (1, 0, 2), (1, 0, 256)));
-    all.push(two(
-        "lower_mark_of_four_bytes",
-        (1, 0, 65_535),
-        (1, 0, u32::MAX),
-    ));
-    all
+    let fall = |name: &str, high: (u8, u32), low: (u8, u32)| {
+        let two = [high, low].map(|(author, mark)| vertex(1, author, mark, []));
+        checked(name, 4, table_of(&two))
+    };
+    vec![
+        same("same_name_second", 1),
+        same("same_name_middle", MIDDLE),
+        same("same_name_last", LAST),
+        with("lower_round_last", LAST, |v| v.round = 2),
+        fall("lower_author", (1, 1), (0, 9)),
+        fall("lower_mark", (0, 256), (0, 2)),
+        fall("lower_mark_of_four_bytes", (0, u32::MAX), (0, 65_535)),
+    ]
 }
 
 /// 7.
 fn entries() -> Vec<Vector> {
     vec![
-        checked("entry_in_round_1_first", 4, changed(0, |v| v.refs[3] = 1)),
-        checked("entry_past_n_first", 4, changed(0, |v| v.refs[30] = 1)),
-        checked(
-            "entry_in_round_1_last_of_it",
-            4,
-            changed(3, |v| v.refs[0] = 1),
-        ),
-        checked("entry_past_n_middle", 4, changed(MIDDLE, |v| v.refs[4] = 1)),
-        checked("entry_past_n_last", 4, changed(LAST, |v| v.refs[30] = 1)),
-        checked(
-            "entries_two_middle",
-            4,
-            changed(MIDDLE, |v| v.refs[2..4].fill(0)),
-        ),
-        checked(
-            "entries_two_last",
-            4,
-            changed(LAST, |v| v.refs[..2].fill(0)),
-        ),
-        checked("entries_none_last", 4, changed(LAST, |v| v.refs.fill(0))),
-        checked("entries_three_passes", 4, changed(LAST, |v| v.refs[1] = 0)),
+        with("entry_in_round_1_first", 0, |v| v.refs[3] = 1),
+        with("entry_past_n_first", 0, |v| v.refs[30] = 1),
+        with("entry_in_round_1_last_of_it", 3, |v| v.refs[0] = 1),
+        with("entry_past_n_middle", MIDDLE, |v| v.refs[4] = 1),
+        with("entry_past_n_last", LAST, |v| v.refs[30] = 1),
+        with("entries_two_middle", MIDDLE, |v| v.refs[2..4].fill(0)),
+        with("entries_two_last", LAST, |v| v.refs[..2].fill(0)),
+        with("entries_none_last", LAST, |v| v.refs.fill(0)),
+        with("entries_three_passes", LAST, |v| v.refs[1] = 0),
     ]
 }
 
 /// 8.
 fn earlier() -> Vec<Vector> {
     let mut moved = p2();
-    let first = moved.remove(0);
-    moved.push(first);
+    moved.rotate_left(1);
     vec![
         checked("names_nothing_first", 4, table_of(&[vertex(2, 0, 1, 0..3)])),
-        checked(
-            "names_other_mark_middle",
-            4,
-            changed(MIDDLE, |v| v.refs[0] = 2),
-        ),
-        checked(
-            "names_mark_of_two_bytes_middle",
-            4,
-            changed(MIDDLE, |v| v.refs[3] = 0x101),
-        ),
-        checked(
-            "names_other_mark_last",
-            4,
-            changed(LAST, |v| v.refs[3] = u32::MAX),
-        ),
+        with("names_other_mark_middle", MIDDLE, |v| v.refs[0] = 2),
+        with("names_mark_of_two_bytes", MIDDLE, |v| v.refs[3] = 0x101),
+        with("names_other_mark_last", LAST, |v| v.refs[3] = u32::MAX),
         checked("names_a_later_record", 4, table_of(&moved)),
-        checked(
-            "names_an_empty_round_last",
-            4,
-            changed(LAST, |v| v.round = 5),
-        ),
+        with("names_an_empty_round_last", LAST, |v| v.round = 5),
     ]
 }
 
 /// Which check answers when several fail: each neighbouring pair that a table can
-/// fail, and an earlier record before a later one.
+/// fail, and an earlier record before a later one. `lengths` has 2 before 3 and 3
+/// before 4.
 fn first_answers() -> Vec<Vector> {
     let padded = |v: &mut Vertex| v.padding = 1;
-    let mut equal = p2();
-    equal[5] = equal[4].clone();
-    let mut equal_and_padded = equal.clone();
-    padded(&mut equal_and_padded[5]);
-    let mut equal_and_few = equal.clone();
-    equal_and_few[5].refs[..2].fill(0);
-    let few_and_unnamed = changed(5, |v| {
-        v.refs[..2].fill(0);
-        v.refs[2] = 9;
-    });
-    let unnamed_before = changed(5, |v| v.refs[2] = 9);
+    let named_before = |v: &mut Vertex| v.author = 0;
+    let few = |v: &mut Vertex| v.refs[..2].fill(0);
+    let unnamed = |v: &mut Vertex| v.refs[2] = 9;
+    let sum_off_and_a_byte = [sum_off(table_of(&p2()), 0, 1), vec![0]].concat();
     vec![
         checked("1_before_2", 5, vec![0; 137]),
-        checked(
-            "2_before_4",
-            4,
-            [sum_off(table_of(&p2()), 0, 1), vec![0]].concat(),
-        ),
+        checked("2_before_4", 4, sum_off_and_a_byte),
         checked("4_before_5", 4, sum_off(changed(5, padded), 5, 1)),
-        checked("5_before_6", 4, table_of(&equal_and_padded)),
-        checked("6_before_7", 4, table_of(&equal_and_few)),
-        checked("7_before_8", 4, few_and_unnamed),
-        checked("8_before_9", 4, changed(LAST, |v| v.round = 1_401)),
-        checked("8_before_4_of_the_next", 4, sum_off(unnamed_before, 6, 1)),
+        with("5_before_6", 5, |v| {
+            padded(v);
+            named_before(v);
+        }),
+        with("6_before_7", 5, |v| {
+            named_before(v);
+            few(v);
+        }),
+        with("7_before_8", 5, |v| {
+            few(v);
+            unnamed(v);
+        }),
+        with("8_before_9", LAST, |v| v.round = 1_401),
+        checked(
+            "8_before_4_of_the_next",
+            4,
+            sum_off(changed(5, unnamed), 6, 1),
+        ),
     ]
 }
 
 /// A table with gaps between its names, and one with two marks in a round.
 fn sparse() -> Vec<Vertex> {
-    let mut vertices = vec![
+    let mut last = vertex(2, 2, 7, []);
+    last.refs[0] = 256;
+    last.refs[1] = 1;
+    last.refs[3] = 65_536;
+    vec![
         vertex(1, 0, 5, []),
         vertex(1, 0, 256, []),
         vertex(1, 1, 1, []),
         vertex(1, 3, 65_536, []),
-    ];
-    let mut second = vertex(2, 2, 7, []);
-    second.refs[0] = 256;
-    second.refs[1] = 1;
-    second.refs[3] = 65_536;
-    vertices.push(second);
-    vertices
+        last,
+    ]
 }
 
 fn asked(name: &str, n: u8, table: Vec<u8>, (round, author, mark): (u32, u8, u32)) -> Vector {
@@ -468,25 +436,22 @@ fn lookups() -> Vec<Vector> {
         ("not_found_author_255", (1, 255, 1)),
         ("not_found_everything_highest", (u32::MAX, 255, u32::MAX)),
     ];
-    let mut all: Vec<Vector> = names
-        .iter()
-        .map(|&(name, key)| asked(&format!("lookup_{name}"), 4, table_of(&sparse()), key))
-        .collect();
-    let refused = sum_off(table_of(&sparse()), 4, 1);
-    all.push(asked("lookup_in_empty", 4, Vec::new(), (1, 0, 1)));
-    all.push(asked(
-        "lookup_in_one_found",
-        4,
-        table_of(&sparse()[..1]),
-        (1, 0, 5),
-    ));
-    all.push(asked("lookup_n_5", 5, table_of(&sparse()), (1, 0, 5)));
-    all.push(asked(
-        "lookup_in_refused_there",
-        4,
-        refused.clone(),
-        (1, 0, 5),
-    ));
-    all.push(asked("lookup_in_refused_not_there", 4, refused, (9, 9, 9)));
-    all
+    let table = || table_of(&sparse());
+    names
+        .map(|(name, key)| asked(&format!("lookup_{name}"), 4, table(), key))
+        .into()
+}
+
+/// In other tables: a refused one answers with its own refusal.
+fn lookups_elsewhere() -> Vec<Vector> {
+    let table = table_of(&sparse());
+    let one = table[..RECORD_BYTES].to_vec();
+    let refused = sum_off(table.clone(), 4, 1);
+    vec![
+        asked("lookup_in_empty", 4, Vec::new(), (1, 0, 1)),
+        asked("lookup_in_one_found", 4, one, (1, 0, 5)),
+        asked("lookup_n_5", 5, table, (1, 0, 5)),
+        asked("lookup_in_refused_there", 4, refused.clone(), (1, 0, 5)),
+        asked("lookup_in_refused_not_there", 4, refused, (9, 9, 9)),
+    ]
 }

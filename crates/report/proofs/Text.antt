@@ -11,7 +11,6 @@ use lib.Seq.{length-take-le, take-suc, take-all}
 use borrow.Author.Tests.{le-leb, lt-leb}
 use Rattle.folds.proofs.Lists.{put-next}
 use Rattle.rules.specs.Program.{decimal, line}
-use Rattle.rules.specs.Settlement.{writtenOver}
 use Rattle.report.specs.declared.Line.{Line}
 use Rattle.report.specs.declared.Digits.{Digits}
 use Rattle.report.specs.Fills.{Fills}

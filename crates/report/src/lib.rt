@@ -1,9 +1,9 @@
 // The bytes of each printed line. Nothing is printed here: a line is put together by value and then copied into a buffer that the caller lends.
 ghost use mathlib.Core.Path.{_≡_};
 ghost use mathlib.Core.List.{[], _∷_, _++_};
-ghost use Prim.Native.Nat.{_+_, _≤_, _<_};
-ghost use lib.ListN.{length, drop};
-ghost use Rattle.rules.specs.Program.{decimal, lineX, lineS};
+ghost use Prim.Native.Nat.{_+_, _<_};
+ghost use lib.ListN.{length};
+ghost use Rattle.rules.specs.Program.{lineX, lineS};
 ghost use Rattle.rules.specs.Refusals.{numberOf, positionOf};
 ghost use Rattle.report.specs.Lines.{lineUndecided, lineSkipped, lineCommitted, lineNamed};
 ghost use Rattle.report.specs.Fills.{Fills};

@@ -6,7 +6,7 @@ use mathlib.Core.Path.{_≡_, refl, sym, _∙_}
 use mathlib.Core.List.{_++_}
 use lib.ListN.{length, drop, length-set}
 use Rattle.rules.specs.Program.{decimal}
-use Rattle.report.proofs.Laws.{frontOf, front-none, decimal-last, digit-put, place-left, tenth}
+use Rattle.report.proofs.Decimal.{frontOf, front-none, decimal-last, digit-put, place-left, tenth}
 use native.Mathlib.Omega.{arith}
 use borrow.Author.Needs.{needs}
 use Rattle.report.proofs.digits_of.Statement.{statement}

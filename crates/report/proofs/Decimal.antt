@@ -1,16 +1,14 @@
--- The digits of a number, and lines put together from their front.
+-- The digits of a number, written from the last to the first.
 -- Assumes nothing.
-use Prim.Native.Nat.{ℕ, zero, suc, _+_, _-_, _*_, _/_, _%_, _^_, _≤_, _<_}
-use mathlib.Core.Path.{_≡_, refl, sym, ap, _∙_}
-use mathlib.Core.List.{List, [], _∷_, _++_, append-assoc}
+use Prim.Native.Nat.{ℕ, zero, suc, _-_, _*_, _/_, _%_, _^_, _≤_, _<_}
+use mathlib.Core.Path.{_≡_, refl, sym, _∙_}
+use mathlib.Core.List.{List, [], _∷_, _++_}
 use native.Mathlib.Nat.{le-refl, pow-suc, div-lt-iff-lt-mul}
 use native.Mathlib.Omega.{arith}
 use lib.Dec.{lit<}
 use lib.ListN.{length, drop, set, length-set}
 use lib.Seq.{drop-cons, append-snoc, getD-set-same, drop-set-lt}
-use Rattle.rules.specs.Program.{digit, spell, decimal, line}
-
--- ---- digits
+use Rattle.rules.specs.Program.{digit, spell, decimal}
 
 -- Enough is enough: with at least as many more digits allowed as the number in front, how many makes no difference.
 enough : (a b front d : ℕ) → front ≤ a → front ≤ b → spell a front d ≡ spell b front d
@@ -41,6 +39,7 @@ pub decimal-last : (x : ℕ) → decimal x ≡ frontOf (x / 10) ++ digit (x % 10
 unfolding decimal
 decimal-last x = spelled x (x / 10) (x % 10) (omega arith)
 
+-- Where something stands in front, its digits are its own.
 pub front-some : (m : ℕ) → 0 < m → frontOf m ≡ decimal m
 unfolding frontOf
 front-some zero h = absurd (omega arith)
@@ -64,6 +63,7 @@ pub place-left : (m s : ℕ) → 0 < m → m < 10 ^ s → 0 < s
 place-left m zero h l = absurd (omega arith)
 place-left m (suc s) h l = omega arith
 
+-- With the last digit gone, a number takes one place less.
 pub tenth : (m s : ℕ) → 0 < s → m < 10 ^ s → m / 10 < 10 ^ (s - 1)
 tenth m zero h l = absurd (omega arith)
 tenth m (suc s) h l =

@@ -3,7 +3,7 @@
 //!
 //! `authors`, `record`, `check`, `table`, `decide`, `settle` and `program` are the
 //! rules; `rng`, `grow`, `damage`, `generate` and `shares` make random tables and
-//! show what these reach.
+//! show what these reach; `vectors` makes the stored tables of the crate of that name.
 
 #![forbid(unsafe_code)]
 
@@ -19,3 +19,4 @@ pub mod rng;
 pub mod settle;
 pub mod shares;
 pub mod table;
+pub mod vectors;

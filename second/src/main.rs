@@ -3,13 +3,16 @@
 use second::generate::{input, Kind};
 use second::program::run;
 use second::shares::shares;
+use second::vectors;
 use std::io::{Read, Write};
+use std::path::Path;
 use std::process::ExitCode;
 
 const HELP: &str = "\
 second settle                        the program: reads n and a table, prints X or S, R, V lines
 second generate --kind NAME --seed S writes an input of the program
 second shares --cases N --seed S     counts what generated tables reach
+second vectors FOLDER                writes the stored tables of crates/vectors, their names and answers
 second help                          prints this
 ";
 
@@ -49,6 +52,10 @@ fn answer(words: &[&str]) -> Result<Vec<u8>, String> {
             let shares = shares(number(cases)?, number(seed)?);
             Ok(shares.to_string().into_bytes())
         }
+        ["vectors", folder] => match vectors::write(Path::new(folder)) {
+            Ok(files) => Ok(format!("{files} files\n").into_bytes()),
+            Err(error) => Err(format!("{folder}: {error}")),
+        },
         ["help"] => Ok(help().into_bytes()),
         _ => Err(format!("unknown arguments\n{HELP}")),
     }

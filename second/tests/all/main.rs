@@ -9,3 +9,4 @@ mod made;
 mod past_f;
 mod refusals;
 mod sizes;
+mod vectors;

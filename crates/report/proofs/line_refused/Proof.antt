@@ -1,0 +1,57 @@
+-- `report::line_refused` meets its contract: the letter, the number and the position in turn are the line.
+-- Assumes nothing.
+use mathlib.Core.Path.{_∙_}
+use Rattle.rules.specs.Program.{bytesOf, lineX}
+use Rattle.report.proofs.Text.{first-word, next-word, last-word}
+use borrow.Author.Needs.{needs}
+use Rattle.report.proofs.line_refused.Statement.{statement}
+use Rattle.report.proofs.line_refused.Tie as tie
+
+number-of-requires : tie.Need-number-of-requires
+number-of-requires c κs = search needs
+
+position-of-requires : tie.Need-position-of-requires
+position-of-requires c κs = search needs
+
+begun-requires : tie.Need-begun-requires
+begun-requires c κs = search needs
+
+with-number-requires : tie.Need-with-number-requires
+with-number-requires c κs = search needs
+
+with-number-requires-2 : tie.Need-with-number-requires-2
+with-number-requires-2 c κs = search needs
+
+ended-requires : tie.Need-ended-requires
+ended-requires c κs = search needs
+
+same-length : tie.Need-same-length
+same-length c = search needs
+
+returns : tie.Need-returns
+unfolding bytesOf lineX
+returns c =
+    let e = c .before .before in
+    let e2 = e .before .before in
+    let e1 = e2 .before in
+    let e0 = e1 .before in
+    last-word
+    (e2 .with-number2 .result)
+    (rw (← e0 .before .before .number-of .ensures, ← e0 .before .position-of .ensures)
+    (first-word (e0 .begun .ensures) _
+    ∙ next-word (e1 .with-number .ensures .grown) _
+    ∙ next-word (e2 .with-number2 .ensures .grown) _))
+    (e .ended .ensures)
+
+pub line-refused-spec : {M : Type 1} → statement M
+line-refused-spec =
+    tie.close
+    (tie.spec
+    number-of-requires
+    position-of-requires
+    begun-requires
+    with-number-requires
+    with-number-requires-2
+    ended-requires
+    same-length
+    returns)

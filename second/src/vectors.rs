@@ -1,0 +1,457 @@
+//! Named tables and lookups, each with the answer of the rules: the stored files
+//! on which the program `vectors` is run.
+//!
+//! None aims at 9, as no table reaches it: a record above round 1,400 either names
+//! a record that isn't there (8), or stands on more than 4,096 records (3).
+
+use crate::check::{check, Refusal};
+use crate::record::{decode, encode_mended, sum_of, Name, Vertex, ENTRIES, RECORD_BYTES};
+use crate::settle::lookup;
+use std::path::Path;
+
+/// What is asked of a table.
+#[derive(Clone, Copy, Debug, PartialEq, Eq)]
+pub enum Question {
+    Check,
+    Lookup(Name),
+    /// The check, and the check without the last byte.
+    Twice,
+}
+
+pub struct Vector {
+    /// It says what the vector shows.
+    pub name: String,
+    pub question: Question,
+    pub n: u8,
+    pub table: Vec<u8>,
+}
+
+impl Vector {
+    /// One byte for the question, for a lookup the name, then n, then the table.
+    pub fn file(&self) -> Vec<u8> {
+        let mut file = match self.question {
+            Question::Check => vec![0],
+            Question::Lookup(_) => vec![1],
+            Question::Twice => vec![2],
+        };
+        if let Question::Lookup(asked) = self.question {
+            file.extend(asked.round.to_le_bytes());
+            file.push(asked.author);
+            file.extend(asked.mark.to_le_bytes());
+        }
+        file.push(self.n);
+        file.extend(&self.table);
+        file
+    }
+
+    /// The refusals of its answers, each for a check or a lookup; `None` where
+    /// there is none.
+    pub fn refusals(&self) -> Vec<Option<Refusal>> {
+        let checked = |table| check(self.n, table).err();
+        match self.question {
+            Question::Check => vec![checked(&self.table)],
+            Question::Lookup(asked) => vec![self.begin(asked).err()],
+            Question::Twice => vec![
+                checked(&self.table),
+                checked(&self.table[..self.table.len() - 1]),
+            ],
+        }
+    }
+
+    /// What is printed under its name.
+    pub fn answer(&self) -> String {
+        let good = match self.question {
+            Question::Lookup(_) => "found",
+            _ => "passed",
+        };
+        let told = self.refusals().into_iter().map(|refusal| match refusal {
+            Some(refusal) => format!("X {} {}\n", refusal.number, refusal.position),
+            None => format!("{good}\n"),
+        });
+        let mut text: String = told.collect();
+        if let Question::Lookup(asked) = self.question {
+            text.push_str(&self.part(asked));
+        }
+        text
+    }
+
+    fn begin(&self, asked: Name) -> Result<usize, Refusal> {
+        lookup(self.n, &self.table, asked.round, asked.author, asked.mark)
+    }
+
+    /// The length of the part that is handed back, and the name in it.
+    fn part(&self, asked: Name) -> String {
+        match self.begin(asked) {
+            Err(_) => "part 0\n".to_string(),
+            Ok(begin) => {
+                let part = &self.table[begin..begin + RECORD_BYTES];
+                let name = decode(part).name();
+                let Name {
+                    round,
+                    author,
+                    mark,
+                } = name;
+                format!("part {}\nV {round} {author} {mark}\n", part.len())
+            }
+        }
+    }
+}
+
+/// A file of the program's folder, by its path there.
+pub struct Stored {
+    pub path: String,
+    pub bytes: Vec<u8>,
+}
+
+/// Every file that is stored: the data, the arguments and what must be printed.
+pub fn files() -> Vec<Stored> {
+    let vectors = vectors();
+    let mut files: Vec<Stored> = vectors
+        .iter()
+        .map(|vector| Stored {
+            path: format!("data/{}", vector.name),
+            bytes: vector.file(),
+        })
+        .collect();
+    let names = vectors.iter().map(|vector| format!("{}\n", vector.name));
+    let printed = vectors
+        .iter()
+        .map(|vector| format!("{}\n{}", vector.name, vector.answer()));
+    files.push(Stored {
+        path: "args".to_string(),
+        bytes: names.collect::<String>().into_bytes(),
+    });
+    files.push(Stored {
+        path: "stdout".to_string(),
+        bytes: printed.collect::<String>().into_bytes(),
+    });
+    files
+}
+
+/// Writes them below a folder, and tells how many.
+pub fn write(folder: &Path) -> std::io::Result<usize> {
+    let files = files();
+    std::fs::create_dir_all(folder.join("data"))?;
+    for file in &files {
+        std::fs::write(folder.join(&file.path), &file.bytes)?;
+    }
+    Ok(files.len())
+}
+
+// ---- tables
+
+fn table_of(vertices: &[Vertex]) -> Vec<u8> {
+    vertices.iter().flat_map(encode_mended).collect()
+}
+
+/// A vertex that references mark 1 of these authors.
+fn vertex(round: u32, author: u8, mark: u32, authors: impl IntoIterator<Item = u8>) -> Vertex {
+    let mut refs = [0; ENTRIES];
+    for author in authors {
+        refs[usize::from(author)] = 1;
+    }
+    Vertex {
+        round,
+        mark,
+        refs,
+        batches: 0,
+        author,
+        padding: 0,
+        sum: 0,
+    }
+}
+
+/// Full rounds, all marks 1, cut after so many records.
+fn full(n: u8, records: usize) -> Vec<Vertex> {
+    (1..)
+        .flat_map(|round| (0..n).map(move |author| (round, author)))
+        .take(records)
+        .map(|(round, author)| {
+            let authors = if round == 1 { 0..0 } else { 0..n };
+            vertex(round, author, 1, authors)
+        })
+        .collect()
+}
+
+/// P2: rounds 1 to 3 of four authors, full.
+fn p2() -> Vec<Vertex> {
+    full(4, 12)
+}
+
+const MIDDLE: usize = 6;
+const LAST: usize = 11;
+
+/// P2 with one record changed, its sum right.
+fn changed(position: usize, how: impl FnOnce(&mut Vertex)) -> Vec<u8> {
+    let mut vertices = p2();
+    how(&mut vertices[position]);
+    table_of(&vertices)
+}
+
+/// A table in which the sum of one record is off.
+fn sum_off(mut table: Vec<u8>, position: usize, by: u16) -> Vec<u8> {
+    let record = &mut table[position * RECORD_BYTES..][..RECORD_BYTES];
+    let sum = sum_of(record).wrapping_add(by);
+    record[RECORD_BYTES - 2..].copy_from_slice(&sum.to_le_bytes());
+    table
+}
+
+// ---- the vectors
+
+/// All of them, in the order in which they are run.
+pub fn vectors() -> Vec<Vector> {
+    let mut all = counts();
+    all.extend(lengths());
+    all.extend(sums());
+    all.extend(fields());
+    all.extend(rising());
+    all.extend(entries());
+    all.extend(earlier());
+    all.extend(first_answers());
+    all.extend(lookups());
+    all.extend(lookups_elsewhere());
+    all
+}
+
+fn checked(name: &str, n: u8, table: Vec<u8>) -> Vector {
+    Vector {
+        name: name.to_string(),
+        question: Question::Check,
+        n,
+        table,
+    }
+}
+
+/// P2 with one record changed, its sum right, checked with n = 4.
+fn with(name: &str, position: usize, how: impl FnOnce(&mut Vertex)) -> Vector {
+    checked(name, 4, changed(position, how))
+}
+
+/// P2 in which the sum of one record is off, checked with n = 4.
+fn with_sum_off(name: &str, position: usize, by: u16) -> Vector {
+    checked(name, 4, sum_off(table_of(&p2()), position, by))
+}
+
+/// 1, and the smallest and the largest count that pass.
+fn counts() -> Vec<Vector> {
+    let p2 = || table_of(&p2());
+    vec![
+        checked("n_0", 0, p2()),
+        checked("n_3", 3, p2()),
+        checked("n_4_passes", 4, p2()),
+        checked("n_5", 5, p2()),
+        checked("n_31_passes", 31, table_of(&full(31, 32))),
+        checked("n_34", 34, p2()),
+        checked("n_255", 255, p2()),
+        checked("n_0_empty", 0, Vec::new()),
+    ]
+}
+
+/// 2, 3 and what passes beside them.
+fn lengths() -> Vec<Vector> {
+    let one_byte = |table: Vec<u8>| [table, vec![0]].concat();
+    vec![
+        checked("empty_passes", 4, Vec::new()),
+        checked("one_byte", 4, vec![0]),
+        checked("bytes_137", 4, table_of(&p2())[..137].to_vec()),
+        checked("bytes_138_passes", 4, table_of(&p2())[..138].to_vec()),
+        checked("bytes_139", 4, table_of(&p2())[..139].to_vec()),
+        checked("records_4096_passes", 4, table_of(&full(4, 4_096))),
+        // 2 before 3 with the last byte, and 3 before 4 without it.
+        Vector {
+            question: Question::Twice,
+            ..checked(
+                "records_4097_a_byte_more_and_sum_wrong",
+                4,
+                one_byte(sum_off(table_of(&full(4, 4_097)), 0, 1)),
+            )
+        },
+    ]
+}
+
+/// 4.
+fn sums() -> Vec<Vector> {
+    let mut padded = table_of(&p2());
+    padded[MIDDLE * RECORD_BYTES + 135] = 1;
+    let carried = Vertex {
+        batches: 65_535,
+        ..vertex(1, 2, 65_535, [])
+    };
+    vec![
+        with_sum_off("sum_wrong_first", 0, 1),
+        with_sum_off("sum_wrong_middle", MIDDLE, 1),
+        with_sum_off("sum_wrong_last", LAST, 1),
+        with_sum_off("sum_high_byte_wrong", MIDDLE, 256),
+        checked("sum_leaves_padding_out", 4, padded),
+        checked("sum_drops_carries_passes", 4, table_of(&[carried])),
+    ]
+}
+
+/// 5.
+fn fields() -> Vec<Vector> {
+    type Cause = (&'static str, fn(&mut Vertex));
+    let causes: [Cause; 5] = [
+        ("padding_1_sum_right", |v| v.padding = 1),
+        ("round_0", |v| v.round = 0),
+        ("mark_0", |v| v.mark = 0),
+        ("author_n", |v| v.author = 4),
+        ("author_255", |v| v.author = 255),
+    ];
+    let places = [("first", 0), ("middle", MIDDLE), ("last", LAST)];
+    let each = |(cause, how): Cause| {
+        places.map(|(place, position)| with(&format!("{cause}_{place}"), position, how))
+    };
+    causes.into_iter().flat_map(each).collect()
+}
+
+/// 6. The first record cannot fail it.
+fn rising() -> Vec<Vector> {
+    let same = |name: &str, position: usize| {
+        let mut vertices = p2();
+        vertices[position] = vertices[position - 1].clone();
+        checked(name, 4, table_of(&vertices))
+    };
+    let fall = |name: &str, high: (u8, u32), low: (u8, u32)| {
+        let two = [high, low].map(|(author, mark)| vertex(1, author, mark, []));
+        checked(name, 4, table_of(&two))
+    };
+    vec![
+        same("same_name_second", 1),
+        same("same_name_middle", MIDDLE),
+        same("same_name_last", LAST),
+        with("lower_round_last", LAST, |v| v.round = 2),
+        fall("lower_author", (1, 1), (0, 9)),
+        fall("lower_mark", (0, 256), (0, 2)),
+        fall("lower_mark_of_four_bytes", (0, u32::MAX), (0, 65_535)),
+    ]
+}
+
+/// 7.
+fn entries() -> Vec<Vector> {
+    vec![
+        with("entry_in_round_1_first", 0, |v| v.refs[3] = 1),
+        with("entry_past_n_first", 0, |v| v.refs[30] = 1),
+        with("entry_in_round_1_last_of_it", 3, |v| v.refs[0] = 1),
+        with("entry_past_n_middle", MIDDLE, |v| v.refs[4] = 1),
+        with("entry_past_n_last", LAST, |v| v.refs[30] = 1),
+        with("entries_two_middle", MIDDLE, |v| v.refs[2..4].fill(0)),
+        with("entries_two_last", LAST, |v| v.refs[..2].fill(0)),
+        with("entries_none_last", LAST, |v| v.refs.fill(0)),
+        with("entries_three_passes", LAST, |v| v.refs[1] = 0),
+    ]
+}
+
+/// 8.
+fn earlier() -> Vec<Vector> {
+    let mut moved = p2();
+    moved.rotate_left(1);
+    vec![
+        checked("names_nothing_first", 4, table_of(&[vertex(2, 0, 1, 0..3)])),
+        with("names_other_mark_middle", MIDDLE, |v| v.refs[0] = 2),
+        with("names_mark_of_two_bytes", MIDDLE, |v| v.refs[3] = 0x101),
+        with("names_other_mark_last", LAST, |v| v.refs[3] = u32::MAX),
+        checked("names_a_later_record", 4, table_of(&moved)),
+        with("names_an_empty_round_last", LAST, |v| v.round = 5),
+    ]
+}
+
+/// Which check answers when several fail: each neighbouring pair that a table can
+/// fail, and an earlier record before a later one. `lengths` has 2 before 3 and 3
+/// before 4.
+fn first_answers() -> Vec<Vector> {
+    let padded = |v: &mut Vertex| v.padding = 1;
+    let named_before = |v: &mut Vertex| v.author = 0;
+    let few = |v: &mut Vertex| v.refs[..2].fill(0);
+    let unnamed = |v: &mut Vertex| v.refs[2] = 9;
+    let sum_off_and_a_byte = [sum_off(table_of(&p2()), 0, 1), vec![0]].concat();
+    vec![
+        checked("1_before_2", 5, vec![0; 137]),
+        checked("2_before_4", 4, sum_off_and_a_byte),
+        checked("4_before_5", 4, sum_off(changed(5, padded), 5, 1)),
+        with("5_before_6", 5, |v| {
+            padded(v);
+            named_before(v);
+        }),
+        with("6_before_7", 5, |v| {
+            named_before(v);
+            few(v);
+        }),
+        with("7_before_8", 5, |v| {
+            few(v);
+            unnamed(v);
+        }),
+        with("8_before_9", LAST, |v| v.round = 1_401),
+        checked(
+            "8_before_4_of_the_next",
+            4,
+            sum_off(changed(5, unnamed), 6, 1),
+        ),
+    ]
+}
+
+/// A table with gaps between its names, and one with two marks in a round.
+fn sparse() -> Vec<Vertex> {
+    let mut last = vertex(2, 2, 7, []);
+    last.refs[0] = 256;
+    last.refs[1] = 1;
+    last.refs[3] = 65_536;
+    vec![
+        vertex(1, 0, 5, []),
+        vertex(1, 0, 256, []),
+        vertex(1, 1, 1, []),
+        vertex(1, 3, 65_536, []),
+        last,
+    ]
+}
+
+fn asked(name: &str, n: u8, table: Vec<u8>, (round, author, mark): (u32, u8, u32)) -> Vector {
+    let asked = Name {
+        round,
+        author,
+        mark,
+    };
+    Vector {
+        question: Question::Lookup(asked),
+        ..checked(name, n, table)
+    }
+}
+
+/// 11, and what is found.
+fn lookups() -> Vec<Vector> {
+    let names = [
+        ("found_first", (1, 0, 5)),
+        ("found_second_mark", (1, 0, 256)),
+        ("found_middle", (1, 1, 1)),
+        ("found_wide_mark", (1, 3, 65_536)),
+        ("found_last", (2, 2, 7)),
+        ("not_found_below", (1, 0, 4)),
+        ("not_found_between_marks", (1, 0, 6)),
+        ("not_found_between_authors", (1, 2, 1)),
+        ("not_found_between_rounds", (2, 0, 1)),
+        ("not_found_above", (2, 2, 8)),
+        ("not_found_round_above", (3, 0, 1)),
+        ("not_found_round_0", (0, 0, 5)),
+        ("not_found_mark_0", (1, 0, 0)),
+        ("not_found_author_n", (1, 4, 1)),
+        ("not_found_author_255", (1, 255, 1)),
+        ("not_found_everything_highest", (u32::MAX, 255, u32::MAX)),
+    ];
+    let table = || table_of(&sparse());
+    names
+        .map(|(name, key)| asked(&format!("lookup_{name}"), 4, table(), key))
+        .into()
+}
+
+/// In other tables: a refused one answers with its own refusal.
+fn lookups_elsewhere() -> Vec<Vector> {
+    let table = table_of(&sparse());
+    let one = table[..RECORD_BYTES].to_vec();
+    let refused = sum_off(table.clone(), 4, 1);
+    vec![
+        asked("lookup_in_empty", 4, Vec::new(), (1, 0, 1)),
+        asked("lookup_in_one_found", 4, one, (1, 0, 5)),
+        asked("lookup_n_5", 5, table, (1, 0, 5)),
+        asked("lookup_in_refused_there", 4, refused.clone(), (1, 0, 5)),
+        asked("lookup_in_refused_not_there", 4, refused, (9, 9, 9)),
+    ]
+}

@@ -3,16 +3,23 @@
 //!
 //! `authors`, `record`, `check`, `table`, `decide`, `settle` and `program` are the
 //! rules; `rng`, `grow`, `damage`, `generate` and `shares` make random tables and
-//! show what these reach.
+//! show what these reach. With the feature `library`, `library` calls the proved code
+//! and `compare` asks both.
 
-#![forbid(unsafe_code)]
+#![cfg_attr(not(feature = "library"), forbid(unsafe_code))]
+#![deny(unsafe_code)]
 
 pub mod authors;
 pub mod check;
+#[cfg(feature = "library")]
+pub mod compare;
 pub mod damage;
 pub mod decide;
 pub mod generate;
 pub mod grow;
+#[cfg(feature = "library")]
+#[allow(unsafe_code)]
+pub mod library;
 pub mod program;
 pub mod record;
 pub mod rng;

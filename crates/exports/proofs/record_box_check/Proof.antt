@@ -1,5 +1,7 @@
 -- `exports::record_box_check` meets its contract: the answer of `table::check`, as numbers.
 -- Assumes nothing.
+use mathlib.Core.Path.{_∙_, ap}
+use Rattle.exports.specs.Answers.{checkedAs}
 use borrow.Author.Needs.{needs}
 use Rattle.exports.proofs.record_box_check.Statement.{statement}
 use Rattle.exports.proofs.record_box_check.Tie as tie
@@ -11,7 +13,7 @@ checked-as-requires : tie.Need-checked-as-requires
 checked-as-requires c κs = search needs
 
 returns : tie.Need-returns
-returns c = rw (← c .before .check .ensures) (c .checked-as .ensures)
+returns c = c .checked-as .ensures ∙ ap checkedAs (c .before .check .ensures)
 
 pub record-box-check-spec : {M : Type 1} → statement M
 record-box-check-spec = tie.close (tie.spec check-requires checked-as-requires returns)

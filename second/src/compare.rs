@@ -55,8 +55,7 @@ fn ask_lookup(case: &Case) -> Vec<Asked> {
 }
 
 fn asked<T: PartialEq + Debug>(call: &'static str, word: String, expected: T, told: T) -> Asked {
-    let difference =
-        (expected != told).then(|| format!("second {expected:?}, library {told:?}"));
+    let difference = (expected != told).then(|| format!("second {expected:?}, library {told:?}"));
     Asked {
         call,
         word,
@@ -65,7 +64,7 @@ fn asked<T: PartialEq + Debug>(call: &'static str, word: String, expected: T, to
 }
 
 /// The answer as the C interface gives it.
-fn answer(result: Result<(), Refusal>) -> Answer {
+pub fn answer(result: Result<(), Refusal>) -> Answer {
     match result {
         Ok(()) => Answer {
             number: 0,

@@ -3,13 +3,15 @@
 //!
 //! `authors`, `record`, `check`, `table`, `decide`, `settle` and `program` are the
 //! rules; `rng`, `grow`, `damage`, `generate` and `shares` make random tables and
-//! show what these reach. With the feature `library`, `library` calls the proved code
-//! and `compare` asks both.
+//! show what these reach. With the feature `library`, `library` calls the proved code,
+//! `compare` asks both, and `bench` measures the proved code against `plain`.
 
 #![cfg_attr(not(feature = "library"), forbid(unsafe_code))]
 #![deny(unsafe_code)]
 
 pub mod authors;
+#[cfg(feature = "library")]
+pub mod bench;
 pub mod check;
 #[cfg(feature = "library")]
 pub mod compare;
@@ -20,6 +22,7 @@ pub mod grow;
 #[cfg(feature = "library")]
 #[allow(unsafe_code)]
 pub mod library;
+pub mod plain;
 pub mod program;
 pub mod record;
 pub mod rng;

@@ -14,6 +14,8 @@ second shares --cases N --seed S     counts what generated tables reach
 second help                          prints this
 With the feature library, which .ci/library builds and runs:
 second compare --cases N --seed S    asks the proved code too, and counts where the answers differ
+second bench                         times of the proved check beside a plain one, and the stack of each call
+second once proved|plain N RECORDS   one check of an honest full table, for whoever counts its instructions
 ";
 
 /// What goes to standard output, and the exit status.
@@ -67,6 +69,8 @@ fn answer(words: &[&str]) -> Result<Output, String> {
         ["compare", "--cases", cases, "--seed", seed] => {
             linked::compare(number(cases)?, number(seed)?)
         }
+        ["bench"] => linked::bench(),
+        ["once", by, n, records] => linked::once(by, number(n)?, number(records)?),
         ["help"] => Ok(Output::of(help().into_bytes())),
         _ => Err(format!("unknown arguments\n{HELP}")),
     }
@@ -85,6 +89,23 @@ mod linked {
             status: u8::from(comparison.differed() > 0),
         })
     }
+
+    /// Status 1 if the checks that are timed do not answer the same.
+    pub fn bench() -> Result<Output, String> {
+        let bench = second::bench::bench();
+        Ok(Output {
+            bytes: bench.to_string().into_bytes(),
+            status: u8::from(bench.differed()),
+        })
+    }
+
+    pub fn once(by: &str, n: u64, records: u64) -> Result<Output, String> {
+        let n = u8::try_from(n).map_err(|_| format!("not an author count: {n}"))?;
+        match second::bench::once(by, n, records as usize) {
+            Some(passed) => Ok(Output::of(format!("passed: {passed}\n").into_bytes())),
+            None => Err(format!("no check {by}")),
+        }
+    }
 }
 
 #[cfg(not(feature = "library"))]
@@ -94,6 +115,14 @@ mod linked {
     const WITHOUT: &str = "built without the library; .ci/library builds and runs it with";
 
     pub fn compare(_cases: u64, _seed: u64) -> Result<Output, String> {
+        Err(WITHOUT.to_string())
+    }
+
+    pub fn bench() -> Result<Output, String> {
+        Err(WITHOUT.to_string())
+    }
+
+    pub fn once(_by: &str, _n: u64, _records: u64) -> Result<Output, String> {
         Err(WITHOUT.to_string())
     }
 }

@@ -7,5 +7,6 @@ mod examples;
 mod generated;
 mod made;
 mod past_f;
+mod plain;
 mod refusals;
 mod sizes;

@@ -98,8 +98,8 @@ fn stands(earlier: &[Record], name: Name) -> bool {
     false
 }
 
-// By hand: the order that Rust derives takes three comparisons' worth of
-// instructions more in the search.
+// By hand: with the order that Rust derives, the search takes a tenth more
+// instructions.
 
 #[inline]
 fn same(a: Name, b: Name) -> bool {

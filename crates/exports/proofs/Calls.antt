@@ -1,7 +1,7 @@
 -- An export says what its call says. The numbers of `record_box_check` and `record_box_lookup_answer` fix the answer of the call, so nothing is lost in them;
 -- place and length of `record_box_lookup` are those of the part that `table::lookup` hands back.
 -- Assumes nothing.
-use mathlib.Core.Path.{_≡_, refl, sym, _∙_, ap}
+use mathlib.Core.Path.{_≡_, refl, sym, ap}
 use mathlib.Core.List.{List}
 use Prim.Native.Nat.{ℕ}
 use native.Mathlib.Omega.{arith}
@@ -14,7 +14,7 @@ use Rattle.rules.specs.declared.Checked.the-variants.{Passed, Refused}
 use Rattle.rules.specs.declared.LookupAnswer.{LookupAnswer}
 use Rattle.rules.specs.declared.LookupAnswer.the-variants as answer
 use Rattle.rules.specs.Record.{first}
-use Rattle.rules.specs.Refusals.{numberOf, positionOf}
+use Rattle.rules.specs.Refusals.{numberOf}
 use Rattle.rules.specs.Lookup.{lookupBegin, lookupLength}
 use Rattle.rules.proofs.Refusals.{refusal-unique}
 use Rattle.table.specs.Part.{PartOf}

@@ -2,3 +2,4 @@ pub mod Tests
 pub mod Laws
 pub mod Lists
 pub mod Quorum
+pub mod Rising

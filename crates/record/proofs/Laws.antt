@@ -2,10 +2,10 @@
 -- Assumes nothing.
 use Prim.Native.Nat.{ℕ, zero, suc, _+_, _-_, _*_, _/_, _%_, _≤_, _<_, min}
 use mathlib.Core.Path.{_≡_, refl, sym, ap, _∙_}
-use mathlib.Core.List.{List, [], _∷_, _++_}
-use mathlib.Core.Logic.{_⊎_, inl, inr, ⊎-elim}
+use mathlib.Core.List.{List, [], _∷_}
+use mathlib.Core.Logic.{_⊎_, inl, inr}
 use native.Mathlib.Nat.{le-refl, le-step, not-suc-le-zero}
-use native.Mathlib.Numerals.{add-one, towards-suc}
+use native.Mathlib.Numerals.{towards-suc}
 use native.Mathlib.Omega.{arith}
 use lib.Dec.{ltb}
 use borrow.Author.Tests.{ltb-true, ltb-false}
@@ -80,13 +80,12 @@ unfolding number
 copy-number E b zero i h = refl
 copy-number E b (suc k) i h = rw (copy-byte E b i (omega arith), copy-number E b k (suc i) (omega arith))
 
--- A copy is filled from its front: with i bytes filled it is the copy of the first i bytes.
--- None are filled of zeros.
+-- A copy is filled from its front: with i bytes filled it is the copy of the first i bytes. At the start it is all zeros.
 pub copy-start : (b : List ℕ) → replicate 138 0 ≡ copyOf first (take 0 b)
 unfolding copyOf tabulate
 copy-start b = refl
 
--- one byte more
+-- one byte more is filled
 pub copy-next : (E : Edition) (b : List ℕ) (i : ℕ) → i < length b → i < E .size → set (copyOf E (take i b)) i (getD b i 0) ≡ copyOf E (take (i + 1) b)
 copy-next E b i h l = ext-getD 0 _ _ (simp (length-set, copy-length)) (λ k m. at k (rw (length-set, copy-length) at m) (compare k i))
   where
@@ -101,7 +100,7 @@ copy-next E b i h l = ext-getD 0 _ _ (simp (length-set, copy-length)) (λ k m. a
         getD-set-other (copyOf E (take i b)) i k (getD b i 0) 0 (λ e. omega arith)
         ∙ rw (copy-byte E (take i b) k m, copy-byte E (take (i + 1) b) k m, getD-take-past i b k (omega arith), getD-take-past (i + 1) b k (omega arith))
 
--- all that b has, or all that the copy holds
+-- at the end all is filled that b has, or all that the copy holds
 pub copy-end : (E : Edition) (b : List ℕ) (n : ℕ) → n ≡ min (length b) (E .size) → copyOf E (take n b) ≡ copyOf E b
 unfolding copyOf
 copy-end E b n e = tabulate-same _ _ (E .size) (λ k l. by-test (ltb k n) (λ t. getD-take n b k 0 (ltb-true k n t)) (λ t. past k l (ltb-false k n t)))

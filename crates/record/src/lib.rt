@@ -1,8 +1,7 @@
 // One record, read from lent bytes. A read past the end is 0, so no function asks its caller for anything.
 ghost use mathlib.Core.Path.{_≡_};
-ghost use Prim.Native.Nat.{_+_, _-_, _*_, _<_, _≤_, min};
+ghost use Prim.Native.Nat.{_+_, _-_, _*_, min};
 ghost use lib.ListN.{getD, drop};
-ghost use Rattle.folds.specs.Folds.{tabulate};
 ghost use Rattle.record.specs.Copy.{copyOf};
 ghost use Rattle.rules.specs.Record.{number, first, decode as decoded, sumOf, nameOf, entry};
 use rules::Name;
@@ -36,7 +35,7 @@ fn join_four(a: u8, b: u8, c: u8, d: u8) -> u32
     (a as u32) + (b as u32) * 256 + (c as u32) * 65536 + (d as u32) * 16777216
 }
 
-// n minus k, and 0 where k is more.
+// n minus k, and 0 where k is more: with it one test tells that a number ends within the bytes, however few they are.
 fn minus(n: usize, k: usize) -> usize
     ensures { λ r. ⌜ r ≡ n - k ⌝ }
 {
@@ -50,7 +49,7 @@ fn smaller(n: usize, k: usize) -> usize
     if n < k { n } else { k }
 }
 
-// The bytes from byte i on; none from the end on.
+// The bytes from byte i on, and none from the end on: counted from there, no place overflows.
 fn rest(b: &[u8], i: usize) -> &[u8]
     ensures { λ r. ⌜ now r ≡ drop i (now (b .entry)) ⌝ }
 {
@@ -60,6 +59,7 @@ fn rest(b: &[u8], i: usize) -> &[u8]
     &b[b.len()..]
 }
 
+// Byte i.
 pub fn byte_at(b: &[u8], i: usize) -> u8
     ensures { λ r. ⌜ r ≡ getD (now (b .entry)) i 0 ⌝ }
 {
@@ -69,6 +69,7 @@ pub fn byte_at(b: &[u8], i: usize) -> u8
     0
 }
 
+// The two bytes from byte i on as a number. Only near the end are they read one by one.
 pub fn u16_at(b: &[u8], i: usize) -> u16
     ensures { λ r. ⌜ r ≡ number 2 (now (b .entry)) i ⌝ }
 {
@@ -79,6 +80,7 @@ pub fn u16_at(b: &[u8], i: usize) -> u16
     join_two(byte_at(r, 0), byte_at(r, 1))
 }
 
+// The four bytes from byte i on as a number, in the same way.
 pub fn u32_at(b: &[u8], i: usize) -> u32
     ensures { λ r. ⌜ r ≡ number 4 (now (b .entry)) i ⌝ }
 {
@@ -89,7 +91,7 @@ pub fn u32_at(b: &[u8], i: usize) -> u32
     join_four(byte_at(r, 0), byte_at(r, 1), byte_at(r, 2), byte_at(r, 3))
 }
 
-// A copy of the record as it stands, with 0 past the end of b.
+// A copy of the record as it stands, with 0 past the end of b. It is filled only as far as b has bytes, so no byte is tested for its place.
 fn copy_of(b: &[u8]) -> [u8; 138]
     ensures { λ r. ⌜ r ≡ copyOf first (now (b .entry)) ⌝ }
 {
@@ -117,12 +119,14 @@ fn sum_words(c: [u8; 138]) -> u16
     sum
 }
 
+// The sum that the record should carry.
 pub fn sum_of(b: &[u8]) -> u16
     ensures { λ r. ⌜ r ≡ sumOf first (now (b .entry)) ⌝ }
 {
     sum_words(copy_of(b))
 }
 
+// The 31 references, taken out as one value.
 pub fn refs_of(b: &[u8]) -> [u32; 31]
     ensures { λ r. ⌜ r ≡ decoded first (now (b .entry)) .refs ⌝ }
 {
@@ -135,6 +139,7 @@ pub fn refs_of(b: &[u8]) -> [u32; 31]
     refs
 }
 
+// The record, decoded. Nothing is checked here: any bytes make a vertex.
 pub fn decode(b: &[u8]) -> Vertex
     ensures { λ r. ⌜ r ≡ decoded first (now (b .entry)) ⌝ }
 {
@@ -150,6 +155,7 @@ pub fn decode(b: &[u8]) -> Vertex
     }
 }
 
+// The name alone, for a search that compares names.
 pub fn name_of(b: &[u8]) -> Name
     ensures { λ r. ⌜ r ≡ nameOf (decoded first (now (b .entry))) ⌝ }
 {
@@ -160,7 +166,7 @@ pub fn name_of(b: &[u8]) -> Name
     }
 }
 
-// No entry stands from 31 on.
+// Entry i alone; none stands from 31 on.
 pub fn entry_of(b: &[u8], i: usize) -> u32
     ensures { λ r. ⌜ r ≡ entry (decoded first (now (b .entry))) i ⌝ }
 {

@@ -1,9 +1,9 @@
 -- `record::copy_of` meets its contract. The loop's invariant: with i bytes filled, it is the copy of the first i bytes of b.
 -- The measure is what is left to fill.
 -- Assumes nothing.
-use Prim.Native.Nat.{_-_, _≤_}
+use Prim.Native.Nat.{min, _-_, _≤_}
 use mathlib.Core.Path.{_≡_, _∙_}
-use lib.ListN.{take}
+use lib.ListN.{length, take}
 use Rattle.rules.specs.Record.{first}
 use Rattle.record.specs.Copy.{copyOf}
 use Rattle.record.proofs.Laws.{copy-start, copy-next, copy-end}
@@ -45,8 +45,9 @@ loop-again c =
 returns : tie.Need-returns Inv-loop μ-loop
 returns c =
     let l = c .before in
-    let e : l .loop .i ≡ l .before .smaller .result = omega arith in
-    l .loop .inv .1 ∙ copy-end first (l .before .before .before .args .b .now) (l .loop .i) (e ∙ l .before .smaller .ensures)
+    let b = l .before .before .before .args .b .now in
+    let e : l .loop .i ≡ min (length b) 138 = omega arith in
+    l .loop .inv .1 ∙ copy-end first b (l .loop .i) e
 
 pub copy-of-spec : {M : Type 1} → statement M
 copy-of-spec =

@@ -28,7 +28,18 @@ u16-at-requires-2 c κs = search needs
 
 returns : tie.Need-returns
 unfolding decode
-returns c = cc
+returns c =
+    let marked = c .before .before .before .before in
+    let filled = marked .before .before in
+    λ k. record {
+      round = marked .before .u32-at .ensures k;
+      mark = marked .u32-at2 .ensures k;
+      refs = filled .refs-of .ensures k;
+      batches = c .before .before .before .u16-at .ensures k;
+      author = c .before .before .byte-at .ensures k;
+      padding = c .before .byte-at2 .ensures k;
+      sum = c .u16-at2 .ensures k;
+    }
 
 pub decode-spec : {M : Type 1} → statement M
 decode-spec =

@@ -1,8 +1,9 @@
 -- `record::entry_of` meets its contract: an entry below 31 is the number that stands for it, and from 31 on there is none.
 -- Assumes nothing.
-use mathlib.Core.Path.{sym, _∙_}
+use Prim.Native.Nat.{_+_, _*_}
+use mathlib.Core.Path.{_≡_, sym, _∙_}
 use native.Mathlib.Omega.{arith}
-use Rattle.rules.specs.Record.{first}
+use Rattle.rules.specs.Record.{number, first}
 use Rattle.record.proofs.Laws.{entry-within, entry-past}
 use borrow.Author.Needs.{needs}
 use Rattle.record.proofs.entry_of.Statement.{statement}
@@ -20,7 +21,8 @@ u32-at-requires c κs = search needs
 returns : tie.Need-returns
 returns c =
     let a = c .before .before .before .args in
-    c .u32-at .ensures ∙ sym (entry-within first (a .b .now) (a .i) (omega arith))
+    let e : c .u32-at .result ≡ number 4 (a .b .now) (8 + 4 * a .i) = c .u32-at .ensures in
+    e ∙ sym (entry-within first (a .b .now) (a .i) (omega arith))
 
 returns-2 : tie.Need-returns-2
 returns-2 c = sym (entry-past first (c .before .before .args .b .now) (c .before .before .args .i) (c .if1 .left))

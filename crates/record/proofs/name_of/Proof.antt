@@ -16,7 +16,8 @@ u32-at-requires-2 c κs = search needs
 
 returns : tie.Need-returns
 unfolding decode
-returns c = cc
+returns c =
+    λ k. record { round = c .before .before .u32-at .ensures k; author = c .before .byte-at .ensures k; mark = c .u32-at2 .ensures k }
 
 pub name-of-spec : {M : Type 1} → statement M
 name-of-spec = tie.close (tie.spec u32-at-requires byte-at-requires u32-at-requires-2 returns)

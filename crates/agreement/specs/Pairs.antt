@@ -1,0 +1,56 @@
+-- Pairs of tables for n = 4 that show what the premises of demand 3 are worth: without one of them, two boxes can contradict each other.
+-- Assumes nothing.
+use Prim.Native.Nat.{ℕ, suc, _≤_, _<_}
+use mathlib.Core.Path.{_≡_}
+use mathlib.Core.List.{List, [], _∷_, _++_}
+use Rattle.rules.specs.declared.Checked.the-variants.{Passed}
+use Rattle.rules.specs.Authors.{faults}
+use Rattle.rules.specs.Record.{first, recordAt, records, vertices, at, nameOf}
+use Rattle.rules.specs.Check.{check}
+use Rattle.rules.specs.Decide.{document01}
+use Rattle.rules.specs.Settlement.{equivocators}
+use Rattle.rules.specs.Tables.{unsummed, summed, v, not0}
+use Rattle.agreement.specs.Agreement.{Agree}
+
+-- a vertex with mark 2
+unfoldable pub second : (round author : ℕ) → List ℕ → List ℕ
+second r a es = summed 0 (unsummed r a 2 0 0 es)
+
+abbrev pub not3 : List ℕ
+not3 = 1 ∷ 1 ∷ 1 ∷ []
+
+-- Authors 0, 1, 2 in rounds 1 to 3, each referencing all three: round 1 is committed with (1, 0, 1).
+unfoldable pub commits1 : List ℕ
+commits1 =
+    v 1 0 [] ++ v 1 1 [] ++ v 1 2 [] ++ v 2 0 not3 ++ v 2 1 not3 ++ v 2 2 not3 ++ v 3 0 not3 ++ v 3 1 not3 ++ v 3 2 not3
+
+-- Authors 1, 2, 3 in rounds 1 and 2, each referencing all three: round 1 is skipped. Against the table above, author 2 has two vertices
+-- in round 2, and the name (2, 1, 1) stands for two records.
+unfoldable pub otherRecord : List ℕ
+otherRecord = v 1 1 [] ++ v 1 2 [] ++ v 1 3 [] ++ v 2 1 not0 ++ second 2 2 not0 ++ v 2 3 not0
+
+-- The same, but author 1 too has a second vertex in round 2, with a mark of its own.
+unfoldable pub twoTwice : List ℕ
+twoTwice = v 1 1 [] ++ v 1 2 [] ++ v 1 3 [] ++ second 2 1 not0 ++ second 2 2 not0 ++ v 2 3 not0
+
+-- ---- what they show
+
+-- The boxes with these tables contradict each other.
+abbrev pub Contradict : List ℕ → List ℕ → Type 0
+Contradict t u = Agree (document01 4) (document01 4) 4 (vertices first t) (vertices first u) → ⊥
+
+-- All premises but that a name found in both stands for the same record.
+pub record WithoutOneRecord : Type 0 where
+  pub one-passes : check first 4 commits1 ≡ Passed
+  pub other-passes : check first 4 otherRecord ≡ Passed
+  pub few : equivocators 4 (vertices first commits1 ++ vertices first otherRecord) ≤ faults 4
+  pub contradict : Contradict commits1 otherRecord
+
+-- All premises but that at most f authors have two vertices in some one round: here f + 1 have.
+pub record WithoutFew : Type 0 where
+  pub one-passes : check first 4 commits1 ≡ Passed
+  pub other-passes : check first 4 twoTwice ≡ Passed
+  pub same-record : (p q : ℕ) → p < records first commits1 → q < records first twoTwice → nameOf (at (vertices first commits1) p) ≡ nameOf (at (vertices first twoTwice) q)
+      → recordAt first commits1 p ≡ recordAt first twoTwice q
+  pub one-too-many : equivocators 4 (vertices first commits1 ++ vertices first twoTwice) ≡ suc (faults 4)
+  pub contradict : Contradict commits1 twoTwice

@@ -1,0 +1,65 @@
+//! The binary's sub-commands.
+
+use crate::made::{p2, p7};
+use second::generate::{input, Kind};
+use std::io::Write;
+use std::process::{Command, Output, Stdio};
+
+/// Runs the binary with these arguments and this standard input.
+fn second(arguments: &[&str], standard_input: &[u8]) -> Output {
+    let mut child = Command::new(env!("CARGO_BIN_EXE_second"))
+        .args(arguments)
+        .stdin(Stdio::piped())
+        .stdout(Stdio::piped())
+        .stderr(Stdio::piped())
+        .spawn()
+        .expect("the binary starts");
+    let mut pipe = child.stdin.take().expect("it was asked for");
+    // A sub-command that reads nothing may have ended before.
+    let _ = pipe.write_all(standard_input);
+    drop(pipe);
+    child.wait_with_output().expect("the binary ends")
+}
+
+#[test]
+fn settle_reads_standard_input() {
+    let made = p7();
+    let output = second(&["settle"], &[vec![4], made.table()].concat());
+    assert!(output.status.success());
+    assert_eq!(output.stdout, made.prints().into_bytes());
+    assert_eq!(second(&["settle"], &[]).stdout, b"X 1 0\n");
+    assert_eq!(second(&["settle"], &[4]).stdout, b"S 0 0 1 0 0\n");
+    assert_eq!(second(&["settle"], &[4; 65_414]).stdout, b"X 12 0\n");
+}
+
+#[test]
+fn generate_writes_an_input() {
+    let output = second(&["generate", "--kind", "TwinsPastF", "--seed", "7"], &[]);
+    assert!(output.status.success());
+    assert_eq!(output.stdout, input(Kind::TwinsPastF, 7));
+}
+
+#[test]
+fn shares_and_help_print() {
+    let output = second(&["shares", "--cases", "50", "--seed", "1"], &[]);
+    assert!(output.status.success());
+    assert!(output.stdout.starts_with(b"50 cases"));
+    assert!(second(&["help"], &[]).status.success());
+}
+
+#[test]
+fn unknown_arguments_are_told() {
+    for arguments in [
+        &[][..],
+        &["nothing"],
+        &["settle", "more"],
+        &["generate", "--kind", "None", "--seed", "1"],
+        &["generate", "--kind", "Full", "--seed", "x"],
+        &["shares", "--cases", "-1", "--seed", "1"],
+    ] {
+        let output = second(arguments, &p2().table());
+        assert_eq!(output.status.code(), Some(2), "{arguments:?}");
+        assert!(output.stdout.is_empty());
+        assert!(!output.stderr.is_empty());
+    }
+}

@@ -1,0 +1,179 @@
+//! Tables made by hand.
+
+use second::check::Refusal;
+use second::program::run;
+use second::record::{encode_mended, Vertex, ENTRIES};
+use second::settle::{settle, Counts, Outcome};
+
+/// Vertices in the order they were put; nothing sorts them.
+#[derive(Clone)]
+pub struct Made {
+    pub n: u8,
+    pub vertices: Vec<Vertex>,
+}
+
+/// A vertex with these references, each an author and a mark.
+pub fn vertex(round: u32, author: u8, mark: u32, references: &[(u8, u32)]) -> Vertex {
+    let mut refs = [0; ENTRIES];
+    for &(author, mark) in references {
+        refs[usize::from(author)] = mark;
+    }
+    Vertex {
+        round,
+        mark,
+        refs,
+        batches: 0,
+        author,
+        padding: 0,
+        sum: 0,
+    }
+}
+
+impl Made {
+    pub fn new(n: u8) -> Made {
+        Made {
+            n,
+            vertices: Vec::new(),
+        }
+    }
+
+    pub fn put(&mut self, round: u32, author: u8, mark: u32, references: &[(u8, u32)]) {
+        self.vertices.push(vertex(round, author, mark, references));
+    }
+
+    /// A vertex with mark 1 that references mark 1 of these authors.
+    pub fn one(&mut self, round: u32, author: u8, authors: &[u8]) {
+        self.twin(round, author, 1, authors);
+    }
+
+    /// The same with any mark of its own.
+    pub fn twin(&mut self, round: u32, author: u8, mark: u32, authors: &[u8]) {
+        let references: Vec<(u8, u32)> = authors.iter().map(|&a| (a, 1)).collect();
+        self.put(round, author, mark, &references);
+    }
+
+    /// These authors, each referencing all n (in round 1, nothing).
+    pub fn some(&mut self, round: u32, authors: &[u8]) {
+        let all: Vec<u8> = match round {
+            1 => Vec::new(),
+            _ => (0..self.n).collect(),
+        };
+        for &author in authors {
+            self.one(round, author, &all);
+        }
+    }
+
+    /// All n authors, each referencing all n (in round 1, nothing).
+    pub fn full(&mut self, round: u32) {
+        let all: Vec<u8> = (0..self.n).collect();
+        self.some(round, &all);
+    }
+
+    pub fn without(&self, round: u32, author: u8) -> Made {
+        let mut made = self.clone();
+        made.vertices
+            .retain(|v| (v.round, v.author) != (round, author));
+        made
+    }
+
+    /// The table with right sums.
+    pub fn table(&self) -> Vec<u8> {
+        self.vertices.iter().flat_map(encode_mended).collect()
+    }
+
+    pub fn prints(&self) -> String {
+        prints(self.n, &self.table())
+    }
+
+    /// The outcome with just enough lent memory.
+    pub fn settled(&self) -> Settled {
+        settled(self.n, &self.table())
+    }
+}
+
+pub fn prints(n: u8, table: &[u8]) -> String {
+    let input = [&[n], table].concat();
+    String::from_utf8(run(&input)).expect("the program prints plain text")
+}
+
+/// Everything a settlement gives.
+#[derive(Clone, Debug, PartialEq, Eq)]
+pub struct Settled {
+    pub outcome: Outcome,
+    pub cells: Vec<u32>,
+    pub order: Vec<u32>,
+    pub taken: Vec<u8>,
+}
+
+impl Settled {
+    pub fn counts(&self) -> Counts {
+        match self.outcome {
+            Outcome::Settled(counts) => counts,
+            Outcome::Refused(refusal) => panic!("refused: {refusal:?}"),
+        }
+    }
+
+    /// The places that were written, and none past them.
+    pub fn written(&self) -> &[u32] {
+        &self.order[..self.counts().written]
+    }
+}
+
+/// Settles with as many cells, places and taken bytes as there are records, all
+/// of which no settlement would write.
+pub fn settled(n: u8, table: &[u8]) -> Settled {
+    let records = table.len() / 138;
+    let mut cells = vec![99_999; records];
+    let mut order = vec![99_999; records];
+    let mut taken = vec![99; records];
+    let outcome = settle(n, table, &mut cells, &mut order, &mut taken);
+    Settled {
+        outcome,
+        cells,
+        order,
+        taken,
+    }
+}
+
+pub fn refusal(number: u8, position: usize) -> Refusal {
+    Refusal { number, position }
+}
+
+/// P2: rounds 1 to 3 full.
+pub fn p2() -> Made {
+    let mut made = Made::new(4);
+    made.full(1);
+    made.full(2);
+    made.full(3);
+    made
+}
+
+/// P7 up to a round.
+pub fn p7_up_to(rounds: u32) -> Made {
+    let mut made = Made::new(4);
+    made.full(1);
+    made.some(2, &[0, 1, 2]);
+    made.one(2, 3, &[1, 2, 3]);
+    made.one(3, 0, &[0, 1, 2]);
+    made.one(3, 1, &[1, 2, 3]);
+    made.one(3, 2, &[1, 2, 3]);
+    made.one(3, 3, &[1, 2, 3]);
+    for round in 4..=rounds {
+        made.full(round);
+    }
+    made
+}
+
+pub fn p7() -> Made {
+    p7_up_to(6)
+}
+
+/// P8: P7, but (4,3) references 1, 2, 3.
+pub fn p8() -> Made {
+    let mut made = p7_up_to(3);
+    made.some(4, &[0, 1, 2]);
+    made.one(4, 3, &[1, 2, 3]);
+    made.full(5);
+    made.full(6);
+    made
+}

@@ -1,0 +1,11 @@
+//! All tests, as one program.
+
+mod binary;
+mod calls;
+mod easy_errors;
+mod examples;
+mod generated;
+mod made;
+mod past_f;
+mod refusals;
+mod sizes;

@@ -121,6 +121,13 @@ fn smaller(a: usize, b: usize) -> usize
     if a < b { a } else { b }
 }
 
+// The place among the first `count` records, or all if there are fewer, where the name stands or would stand if their names rise.
+pub fn place(table: &[u8], count: usize, x: Name) -> usize
+    ensures { λ r. ⌜ r ≡ placeOf (now (table .entry)) (min count (records first (now (table .entry)))) x ⌝ }
+{
+    place_of(table, smaller(count, table.len() / RECORD), x)
+}
+
 // The position of the name among the first `count` records, or how many those are: all, if there are fewer.
 pub fn find(table: &[u8], count: usize, x: Name) -> usize
     ensures { λ r. ⌜ r ≡ findBelow (now (table .entry)) (min count (records first (now (table .entry)))) x ⌝ }

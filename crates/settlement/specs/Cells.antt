@@ -1,0 +1,33 @@
+-- Decisions as they stand in cells, from the highest slot down.
+-- Assumes nothing.
+use Prim.Native.Nat.{ℕ, zero, suc, _+_, _-_, _<_, _≤_}
+use mathlib.Core.Path.{_≡_}
+use mathlib.Core.Bool.{Bool, not, cond}
+use mathlib.Core.List.{List, _++_, map}
+use lib.Dec.{leb, ltb, eqb}
+use lib.ListN.{length, getD, take, drop}
+use Rattle.folds.specs.Folds.{_and_, _or_, firstTo}
+use Rattle.rules.specs.declared.Vertex.{Vertex}
+use Rattle.rules.specs.Record.{at}
+use Rattle.rules.specs.Decision.{Decision, cell}
+use Rattle.rules.specs.Support.{references, directCommit}
+use Rattle.rules.specs.History.{history}
+use Rattle.rules.specs.Decide.{document01, certifiedIn, decisions}
+use Rattle.settlement.specs.Sweep.{Swept}
+
+-- Where the first vertex of that round and leader stands that passes the test, or the number of records.
+unfoldable pub firstIn : List Vertex → (round leader : ℕ) → (Vertex → Bool) → ℕ
+firstIn vs round leader ok = firstTo (λ p. (eqb (at vs p .round) round and eqb (at vs p .author) leader) and ok (at vs p)) (length vs)
+
+-- The first cell from `from` on and below `top` that is not 1; `top` if there is none.
+unfoldable pub stopAt : List ℕ → (from top : ℕ) → ℕ
+stopAt cells from top = firstTo (λ t. leb from t and not (eqb (getD cells t 0) 1)) top
+
+-- The cells from s on hold the decisions of their slots; those below and those past the highest round are as before.
+pub record CellsFrom (n : ℕ) (vs : List Vertex) (s : ℕ) (old new : List ℕ) : Type 0 where
+  pub are : new ≡ take s old ++ (map cell (drop s (decisions (document01 n) n vs)) ++ drop (length (decisions (document01 n) n vs)) old)
+  pub same-length : length new ≡ length old
+
+-- The bytes hold the history of the anchor at a, looked at from p on; if a is no position, of nothing.
+abbrev pub Walked : List Vertex → (a p : ℕ) → List ℕ → Type 0
+Walked vs a p m = a < length vs → Swept vs a p m

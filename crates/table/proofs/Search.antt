@@ -11,8 +11,10 @@ use lib.Dec.{ltb}
 use borrow.Author.Tests.{ltb-true, ltb-false, lt-ltb, le-ltb}
 use Rattle.folds.proofs.Tests.{by-test, not-both, passed, is-not, is-not-true}
 use Rattle.folds.proofs.Laws.{First, first-by}
-use Rattle.folds.specs.Folds.{firstTo}
-use Rattle.table.specs.Search.{halves}
+use Rattle.folds.specs.Folds.{_and_, firstTo}
+use Rattle.rules.specs.declared.Name.{Name}
+use Rattle.rules.specs.Record.{sameName, below}
+use Rattle.table.specs.Search.{halves, nameAt, placeOf, findBelow}
 
 -- ---- the turns
 
@@ -41,6 +43,63 @@ module _ (p : ℕ → Bool) (lo hi m : ℕ) (is : m ≡ lo + (hi - lo) / 2) (l :
 
   pub halves-down : p m ≡ false → halves p (hi - lo) lo hi ≡ halves p (m - lo) lo m
   halves-down t = turn (hi - lo - 1) (omega arith) ∙ rw t (halves-enough p (hi - lo - 1) (m - lo) lo m (omega arith) (omega arith))
+
+-- what a turn of the loop leaves: past the middle where the test held there, and else down to it
+pub record Halved (lo hi lo′ hi′ : ℕ) : Type 0 where
+  pub ordered : lo′ ≤ hi′
+  pub from : lo ≤ lo′
+  pub within : hi′ ≤ hi
+  pub less : hi′ - lo′ < hi - lo
+
+module _ (held : Bool) (lo hi m lo′ hi′ : ℕ) (is : m ≡ lo + (hi - lo) / 2) (l : lo < hi) (e : lo′ ≡ cond held (m + 1) lo) (f : hi′ ≡ cond held hi m) where
+  pub halved : Halved lo hi lo′ hi′
+  halved = by-test held up down
+    where
+      up : held ≡ true → Halved lo hi lo′ hi′
+      up t =
+          let a : lo′ ≡ m + 1 = rw t at e in
+          let b : hi′ ≡ hi = rw t at f in
+          record { ordered = omega arith; from = omega arith; within = omega arith; less = omega arith }
+
+      down : held ≡ false → Halved lo hi lo′ hi′
+      down t =
+          let a : lo′ ≡ lo = rw t at e in
+          let b : hi′ ≡ m = rw t at f in
+          record { ordered = omega arith; from = omega arith; within = omega arith; less = omega arith }
+
+  pub halves-turn : (p : ℕ → Bool) → held ≡ p m → halves p (hi - lo) lo hi ≡ halves p (hi′ - lo′) lo′ hi′
+  halves-turn p q = by-test held up down
+    where
+      up : held ≡ true → halves p (hi - lo) lo hi ≡ halves p (hi′ - lo′) lo′ hi′
+      up t =
+          let a : lo′ ≡ m + 1 = rw t at e in
+          let b : hi′ ≡ hi = rw t at f in
+          rw (a, b) (halves-up p lo hi m is l (sym q ∙ t))
+
+      down : held ≡ false → halves p (hi - lo) lo hi ≡ halves p (hi′ - lo′) lo′ hi′
+      down t =
+          let a : lo′ ≡ lo = rw t at e in
+          let b : hi′ ≡ m = rw t at f in
+          rw (a, b) (halves-down p lo hi m is l (sym q ∙ t))
+
+pub place-start : (t : List ℕ) (k : ℕ) (x : Name) → placeOf t k x ≡ halves (λ p. below (nameAt t p) x) (k - 0) 0 k
+unfolding placeOf
+place-start t k x = let e : k - 0 ≡ k = omega arith in rw e
+
+-- ---- the position of a name among the first k records
+
+module _ (t : List ℕ) (k : ℕ) (x : Name) (m : ℕ) (is : m ≡ placeOf t k x) where
+  pub found-here : m < k → sameName (nameAt t m) x ≡ true → findBelow t k x ≡ m
+  unfolding findBelow _and_
+  found-here l s = rw (← is, lt-ltb m k l, s)
+
+  pub found-other : m < k → sameName (nameAt t m) x ≡ false → findBelow t k x ≡ k
+  unfolding findBelow _and_
+  found-other l s = rw (← is, lt-ltb m k l, s)
+
+  pub found-past : k ≤ m → findBelow t k x ≡ k
+  unfolding findBelow _and_
+  found-past l = rw (← is, le-ltb m k l)
 
 -- ---- what it finds
 

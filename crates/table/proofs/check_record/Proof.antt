@@ -1,0 +1,153 @@
+-- `table::check_record` meets its contract: checks 4 to 9 in order, each with its own answer.
+-- Assumes nothing.
+use mathlib.Core.Path.{sym, _∙_}
+use native.Mathlib.Omega.{arith}
+use Rattle.table.proofs.Records.{count-few, decoded-at, ready, refused-4, refused-5, refused-6, refused-7, refused-8, refused-9, passed-all}
+use borrow.Author.Needs.{needs}
+use Rattle.table.proofs.check_record.Statement.{statement}
+use Rattle.table.proofs.check_record.Tie as tie
+use Rattle.table.proofs.check_record.Reads as reads
+use Rattle.table.proofs.check_record.Lts as lts
+use Rattle.record.proofs.decode.Reads as decode-reads
+use Rattle.record.proofs.sum_of.Reads as sum-of-reads
+use Rattle.table.proofs.entries_wrong.Reads as entries-wrong-reads
+use Rattle.table.proofs.fields_wrong.Reads as fields-wrong-reads
+use Rattle.table.proofs.not_above.Reads as not-above-reads
+use Rattle.table.proofs.not_earlier.Reads as not-earlier-reads
+
+mul-sum-of : tie.Need-mul-sum-of
+mul-sum-of c = search needs
+
+mul-sum-of-2 : tie.Need-mul-sum-of-2
+mul-sum-of-2 c = search needs
+
+add-sum-of : tie.Need-add-sum-of
+add-sum-of c = search needs
+
+sub-sum-of : tie.Need-sub-sum-of
+sub-sum-of c = search needs
+
+part-sum-of-start : tie.Need-part-sum-of-start
+part-sum-of-start c = search needs
+
+part-sum-of-end : tie.Need-part-sum-of-end
+part-sum-of-end c = search needs
+
+sum-of-requires : tie.Need-sum-of-requires
+sum-of-requires c κs = search needs
+
+mul-decode : tie.Need-mul-decode
+mul-decode c = search needs
+
+mul-decode-2 : tie.Need-mul-decode-2
+mul-decode-2 c = search needs
+
+add-decode : tie.Need-add-decode
+add-decode c = search needs
+
+sub-decode : tie.Need-sub-decode
+sub-decode c = search needs
+
+part-decode-start : tie.Need-part-decode-start
+part-decode-start c = search needs
+
+part-decode-end : tie.Need-part-decode-end
+part-decode-end c = search needs
+
+decode-requires : tie.Need-decode-requires
+decode-requires c κs = search needs
+
+returns : tie.Need-returns
+returns c =
+    let d = c .before .before in
+    let s = d .before .before .before .before .before in
+    let t = s .args .table .now in
+    sym (refused-4 (s .args .n) t (s .args .p) (omega arith) (d .decode .result) (d .decode .ensures) (d .before .before .sum-of .result) (d .before .before .sum-of .ensures) (c .if1 .taken))
+
+fields-wrong-requires : tie.Need-fields-wrong-requires
+fields-wrong-requires c κs = search needs
+
+returns-2 : tie.Need-returns-2
+returns-2 c =
+    let d = c .before .before .before .before in
+    let s = d .before .before .before .before .before in
+    let t = s .args .table .now in
+    sym (refused-5 (s .args .n) t (s .args .p) (omega arith) (d .decode .result) (d .decode .ensures) (d .before .before .sum-of .result) (d .before .before .sum-of .ensures) (c .before .before .if1 .left) (sym (c .before .fields-wrong .ensures) ∙ c .if2 .taken))
+
+not-above-requires : tie.Need-not-above-requires
+not-above-requires c κs = search needs
+
+returns-3 : tie.Need-returns-3
+returns-3 c =
+    let d = c .before .before .before .before .before .before in
+    let s = d .before .before .before .before .before in
+    let t = s .args .table .now in
+    sym (refused-6 (s .args .n) t (s .args .p) (omega arith) (d .decode .result) (d .decode .ensures) (d .before .before .sum-of .result) (d .before .before .sum-of .ensures) (c .before .before .before .before .if1 .left) (sym (c .before .before .before .fields-wrong .ensures) ∙ c .before .before .if2 .left) (sym (c .before .not-above .ensures) ∙ c .if3 .taken))
+
+entries-wrong-requires : tie.Need-entries-wrong-requires
+entries-wrong-requires c κs = count-few _ (c .before .before .before .before .before .before .before .before .before .before .before .pre .0)
+
+returns-4 : tie.Need-returns-4
+returns-4 c =
+    let d = c .before .before .before .before .before .before .before .before in
+    let s = d .before .before .before .before .before in
+    let t = s .args .table .now in
+    sym (refused-7 (s .args .n) t (s .args .p) (omega arith) (d .decode .result) (d .decode .ensures) (d .before .before .sum-of .result) (d .before .before .sum-of .ensures) (c .before .before .before .before .before .before .if1 .left) (sym (c .before .before .before .before .before .fields-wrong .ensures) ∙ c .before .before .before .before .if2 .left) (sym (c .before .before .before .not-above .ensures) ∙ c .before .before .if3 .left) (sym (c .before .entries-wrong .ensures) ∙ c .if4 .taken))
+
+not-earlier-requires : tie.Need-not-earlier-requires
+not-earlier-requires c κs =
+    let d = c .before .before .before .before .before .before .before .before in
+    let s = d .before .before .before .before .before in
+    let t = s .args .table .now in
+    ready (s .args .n) t (s .args .p) (d .decode .result) (decoded-at t (s .args .p) (d .decode .result) (omega arith) (d .decode .ensures)) (s .pre .0) (omega arith) (s .pre .1 .1) (sym (c .before .before .before .before .before .fields-wrong .ensures) ∙ c .before .before .before .before .if2 .left) (sym (c .before .entries-wrong .ensures) ∙ c .if4 .left)
+
+returns-5 : tie.Need-returns-5
+returns-5 c =
+    let d = c .before .before .before .before .before .before .before .before .before .before in
+    let s = d .before .before .before .before .before in
+    let t = s .args .table .now in
+    sym (refused-8 (s .args .n) t (s .args .p) (omega arith) (d .decode .result) (d .decode .ensures) (d .before .before .sum-of .result) (d .before .before .sum-of .ensures) (c .before .before .before .before .before .before .before .before .if1 .left) (sym (c .before .before .before .before .before .before .before .fields-wrong .ensures) ∙ c .before .before .before .before .before .before .if2 .left) (sym (c .before .before .before .before .before .not-above .ensures) ∙ c .before .before .before .before .if3 .left) (sym (c .before .before .before .entries-wrong .ensures) ∙ c .before .before .if4 .left) (sym (c .before .not-earlier .ensures) ∙ c .if5 .taken))
+
+returns-6 : tie.Need-returns-6
+returns-6 c =
+    let d = c .before .before .before .before .before .before .before .before .before .before .before .before in
+    let s = d .before .before .before .before .before in
+    let t = s .args .table .now in
+    sym (refused-9 (s .args .n) t (s .args .p) (omega arith) (d .decode .result) (d .decode .ensures) (d .before .before .sum-of .result) (d .before .before .sum-of .ensures) (c .before .before .before .before .before .before .before .before .before .before .if1 .left) (sym (c .before .before .before .before .before .before .before .before .before .fields-wrong .ensures) ∙ c .before .before .before .before .before .before .before .before .if2 .left) (sym (c .before .before .before .before .before .before .before .not-above .ensures) ∙ c .before .before .before .before .before .before .if3 .left) (sym (c .before .before .before .before .before .entries-wrong .ensures) ∙ c .before .before .before .before .if4 .left) (sym (c .before .before .before .not-earlier .ensures) ∙ c .before .before .if5 .left) (c .if6 .taken))
+
+returns-7 : tie.Need-returns-7
+returns-7 c =
+    let d = c .before .before .before .before .before .before .before .before .before .before .before .before in
+    let s = d .before .before .before .before .before in
+    let t = s .args .table .now in
+    sym (passed-all (s .args .n) t (s .args .p) (omega arith) (d .decode .result) (d .decode .ensures) (d .before .before .sum-of .result) (d .before .before .sum-of .ensures) (c .before .before .before .before .before .before .before .before .before .before .if1 .left) (sym (c .before .before .before .before .before .before .before .before .before .fields-wrong .ensures) ∙ c .before .before .before .before .before .before .before .before .if2 .left) (sym (c .before .before .before .before .before .before .before .not-above .ensures) ∙ c .before .before .before .before .before .before .if3 .left) (sym (c .before .before .before .before .before .entries-wrong .ensures) ∙ c .before .before .before .before .if4 .left) (sym (c .before .before .before .not-earlier .ensures) ∙ c .before .before .if5 .left) (c .if6 .left))
+
+pub check-record-spec : {M : Type 1} → statement M
+check-record-spec =
+    tie.close
+    (tie.spec
+    mul-sum-of
+    mul-sum-of-2
+    add-sum-of
+    sub-sum-of
+    part-sum-of-start
+    part-sum-of-end
+    sum-of-requires
+    mul-decode
+    mul-decode-2
+    add-decode
+    sub-decode
+    part-decode-start
+    part-decode-end
+    decode-requires
+    returns
+    fields-wrong-requires
+    returns-2
+    not-above-requires
+    returns-3
+    entries-wrong-requires
+    returns-4
+    not-earlier-requires
+    returns-5
+    returns-6
+    returns-7)

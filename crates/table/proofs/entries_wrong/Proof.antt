@@ -1,0 +1,63 @@
+-- `table::entries_wrong` meets its contract, by counts of entries.
+-- Assumes nothing.
+use Prim.Native.Nat.{_≤_}
+use mathlib.Core.Path.{_≡_, sym}
+use mathlib.Core.Logic.{⊎-elim}
+use native.Mathlib.Omega.{arith}
+use Rattle.table.proofs.Entries.{entries-first, entries-high, entries-quorum, entries-fine}
+use borrow.Author.Needs.{needs}
+use Rattle.table.proofs.entries_wrong.Statement.{statement}
+use Rattle.table.proofs.entries_wrong.Tie as tie
+use Rattle.table.proofs.entries_wrong.Reads as reads
+use Rattle.table.proofs.entries_wrong.Lts as lts
+use Rattle.table.proofs.filled.Reads as filled-reads
+use Rattle.table.proofs.quorum_of.Reads as quorum-of-reads
+
+filled-requires : tie.Need-filled-requires
+filled-requires c κs = search needs
+
+returns : tie.Need-returns
+returns c =
+    let f = c .before .before .before in
+    let a = f .before .before .args in
+    sym (entries-first (a .n) (a .v) _ (f .filled .ensures) (c .before .if1 .taken) (c .if2 .taken))
+
+filled-requires-2 : tie.Need-filled-requires-2
+filled-requires-2 c κs = search needs
+
+returns-2 : tie.Need-returns-2
+returns-2 c =
+    let f = c .before .before .before .before in
+    let a = f .before .before .args in
+    sym (entries-high (a .n) (a .v) (omega arith) _ _ (f .filled .ensures) (c .before .filled2 .ensures) (c .if3 .taken))
+
+quorum-of-requires : tie.Need-quorum-of-requires
+quorum-of-requires c κs = search needs
+
+returns-3 : tie.Need-returns-3
+returns-3 c =
+    let o = c .before .before .before .before in
+    let f = o .before .before .before in
+    let a = f .before .before .args in
+    let fine : a .v .round ≡ 1 → f .filled .result ≤ 0 = ⊎-elim (λ w r. w .1 .left) (λ w r. absurd (w .left r)) (o .before .if1 .came) in
+    rw (c .quorum-of .ensures) (sym (entries-quorum (a .n) (a .v) (omega arith) _ _ (f .filled .ensures) (o .filled2 .ensures) fine (c .before .before .before .if3 .left) (c .before .if4 .taken)))
+
+returns-4 : tie.Need-returns-4
+returns-4 c =
+    let o = c .before .before .before in
+    let f = o .before .before .before in
+    let a = f .before .before .args in
+    let fine : a .v .round ≡ 1 → f .filled .result ≤ 0 = ⊎-elim (λ w r. w .1 .left) (λ w r. absurd (w .left r)) (o .before .if1 .came) in
+    sym (entries-fine (a .n) (a .v) (omega arith) _ _ (f .filled .ensures) (o .filled2 .ensures) fine (c .before .before .if3 .left) (c .if4 .left))
+
+pub entries-wrong-spec : {M : Type 1} → statement M
+entries-wrong-spec =
+    tie.close
+    (tie.spec
+    filled-requires
+    returns
+    filled-requires-2
+    returns-2
+    quorum-of-requires
+    returns-3
+    returns-4)

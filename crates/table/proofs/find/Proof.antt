@@ -1,0 +1,59 @@
+-- `table::find` meets its contract: the place that the halving finds has the name, or no place has it.
+-- Assumes nothing.
+use mathlib.Core.Path.{sym}
+use Rattle.table.proofs.Search.{found-here, found-other, found-past}
+use borrow.Author.Needs.{needs}
+use Rattle.table.proofs.find.Statement.{statement}
+use Rattle.table.proofs.find.Tie as tie
+use Rattle.table.proofs.find.Reads as reads
+use Rattle.table.proofs.find.Lts as lts
+use Rattle.table.proofs.name_at.Reads as name-at-reads
+use Rattle.table.proofs.place_of.Reads as place-of-reads
+use Rattle.table.proofs.same.Reads as same-reads
+use Rattle.table.proofs.smaller.Reads as smaller-reads
+
+smaller-requires : tie.Need-smaller-requires
+smaller-requires c κs = search needs
+
+place-of-requires : tie.Need-place-of-requires
+place-of-requires c κs = search needs
+
+name-at-requires : tie.Need-name-at-requires
+name-at-requires c κs = search needs
+
+same-requires : tie.Need-same-requires
+same-requires c κs = search needs
+
+returns : tie.Need-returns
+returns c =
+    let s = c .before in
+    let m = s .before .before .before in
+    let a = m .before .before .before .args in
+    rw (← m .before .smaller .ensures)
+    (sym (found-here (a .table .now) _ (a .x) _ (m .place-of .ensures) (s .before .before .if1 .taken) (rw (← s .before .name-at .ensures, ← s .same .ensures) (c .if2 .taken))))
+
+returns-2 : tie.Need-returns-2
+returns-2 c =
+    let s = c .before in
+    let m = s .before .before .before in
+    let a = m .before .before .before .args in
+    rw (← m .before .smaller .ensures)
+    (sym (found-other (a .table .now) _ (a .x) _ (m .place-of .ensures) (s .before .before .if1 .taken) (rw (← s .before .name-at .ensures, ← s .same .ensures) (c .if2 .left))))
+
+returns-3 : tie.Need-returns-3
+returns-3 c =
+    let m = c .before in
+    let a = m .before .before .before .args in
+    rw (← m .before .smaller .ensures) (sym (found-past (a .table .now) _ (a .x) _ (m .place-of .ensures) (c .if1 .left)))
+
+pub find-spec : {M : Type 1} → statement M
+find-spec =
+    tie.close
+    (tie.spec
+    smaller-requires
+    place-of-requires
+    name-at-requires
+    same-requires
+    returns
+    returns-2
+    returns-3)

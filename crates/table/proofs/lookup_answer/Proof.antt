@@ -1,0 +1,55 @@
+-- `table::lookup_answer` meets its contract: the check's refusal, or whether the name is found.
+-- Assumes nothing.
+use mathlib.Core.Path.{_≡_, sym, _∙_}
+use native.Mathlib.Omega.{arith}
+use Rattle.rules.specs.declared.Checked.the-variants.{Passed}
+use Rattle.rules.specs.Record.{first}
+use Rattle.rules.specs.Check.{check}
+use Rattle.table.specs.Part.{named}
+use Rattle.table.proofs.Lookups.{answer-refused, answer-found, answer-none}
+use borrow.Author.Needs.{needs}
+use Rattle.table.proofs.lookup_answer.Statement.{statement}
+use Rattle.table.proofs.lookup_answer.Tie as tie
+use Rattle.table.proofs.lookup_answer.Reads as reads
+use Rattle.table.proofs.lookup_answer.Lts as lts
+use Rattle.table.proofs.check.Reads as check-reads
+use Rattle.table.proofs.find.Reads as find-reads
+
+check-requires : tie.Need-check-requires
+check-requires c κs = search needs
+
+enum-told : tie.Need-enum-told
+enum-told c = search needs
+
+enum-known-c : tie.Need-enum-known-c
+enum-known-c c = search needs
+
+returns : tie.Need-returns
+returns c =
+    let r = c .before .before .before in
+    let a = r .before .before .args in
+    sym (answer-refused (a .n) (a .table .now) (named (a .round) (a .author) (a .mark)) _ (sym (r .check .ensures) ∙ c .before .c .given .1))
+
+find-requires : tie.Need-find-requires
+find-requires c κs = search needs
+
+returns-2 : tie.Need-returns-2
+returns-2 c =
+    let f = c .before in
+    let a = f .before .before .before .before .before .args in
+    let t = a .table .now in
+    let e : check first (a .n) t ≡ Passed = sym (f .before .before .before .check .ensures) ∙ f .before .enum-told .given .1 in
+    sym (answer-found (a .n) t (named (a .round) (a .author) (a .mark)) e (f .find .result) (f .find .ensures) (omega arith))
+
+returns-3 : tie.Need-returns-3
+returns-3 c =
+    let f = c .before in
+    let a = f .before .before .before .before .before .args in
+    let t = a .table .now in
+    let e : check first (a .n) t ≡ Passed = sym (f .before .before .before .check .ensures) ∙ f .before .enum-told .given .1 in
+    sym (answer-none (a .n) t (named (a .round) (a .author) (a .mark)) e (f .find .result) (f .find .ensures) (omega arith))
+
+pub lookup-answer-spec : {M : Type 1} → statement M
+lookup-answer-spec =
+    tie.close
+    (tie.spec check-requires enum-told enum-known-c returns find-requires returns-2 returns-3)

@@ -1,0 +1,51 @@
+-- `table::not_above` meets its contract: the names of two records are compared.
+-- Assumes nothing.
+use native.Mathlib.Omega.{arith}
+use Rattle.table.proofs.Names.{first-above, above-is}
+use mathlib.Core.Path.{sym, _∙_}
+use borrow.Author.Needs.{needs}
+use Rattle.table.proofs.not_above.Statement.{statement}
+use Rattle.table.proofs.not_above.Tie as tie
+use Rattle.table.proofs.not_above.Reads as reads
+use Rattle.table.proofs.not_above.Lts as lts
+use Rattle.table.proofs.below.Reads as below-reads
+use Rattle.table.proofs.name_at.Reads as name-at-reads
+
+returns : tie.Need-returns
+returns c = sym (first-above _ _ (c .if1 .taken))
+
+sub-name-at : tie.Need-sub-name-at
+sub-name-at c = search needs
+
+name-at-requires : tie.Need-name-at-requires
+name-at-requires c κs = search needs
+
+name-at-requires-2 : tie.Need-name-at-requires-2
+name-at-requires-2 c κs = search needs
+
+below-requires : tie.Need-below-requires
+below-requires c κs = search needs
+
+returns-2 : tie.Need-returns-2
+returns-2 c =
+    let b = c .before in
+    let a = b .before .before .before .before .before .args in
+    sym (above-is (a .table .now) (a .p) (b .below .result) (b .before .before .before .if1 .left) (omega arith) (rw (← b .before .before .name-at .ensures, ← b .before .name-at2 .ensures) (b .below .ensures)) ∙ rw (c .if2 .taken))
+
+returns-3 : tie.Need-returns-3
+returns-3 c =
+    let b = c .before in
+    let a = b .before .before .before .before .before .args in
+    sym (above-is (a .table .now) (a .p) (b .below .result) (b .before .before .before .if1 .left) (omega arith) (rw (← b .before .before .name-at .ensures, ← b .before .name-at2 .ensures) (b .below .ensures)) ∙ rw (c .if2 .left))
+
+pub not-above-spec : {M : Type 1} → statement M
+not-above-spec =
+    tie.close
+    (tie.spec
+    returns
+    sub-name-at
+    name-at-requires
+    name-at-requires-2
+    below-requires
+    returns-2
+    returns-3)

@@ -1,0 +1,167 @@
+-- `table::not_earlier` meets its contract. The outer loop's invariant: each of the first i entries names an earlier record or none at all.
+-- The inner one's: of the records before p none below lo and none from hi on has the name that is looked for.
+-- The measures are the entries and the records that are left.
+-- Assumes nothing.
+use Prim.Native.Nat.{ℕ, _+_, _-_, _/_, _≤_, _<_}
+use mathlib.Core.Path.{_≡_, refl, sym, _∙_}
+use mathlib.Core.Logic.{⊎-elim}
+use mathlib.Core.Bool.{true, false}
+use Rattle.folds.specs.Folds.{anyTo}
+use Rattle.folds.proofs.Laws.{any-start, any-next}
+use Rattle.rules.specs.Record.{entry, sameName, below}
+use Rattle.table.specs.Search.{nameAt}
+use Rattle.table.specs.Part.{named}
+use Rattle.table.proofs.Search.{halved}
+use Rattle.table.proofs.Earlier.{rise, Searched, searched-start, searched-turn, stray, stray-empty, entry-named, none-stray, some-stray, not-stray}
+use native.Mathlib.Omega.{arith}
+use borrow.Author.Needs.{needs}
+use Rattle.table.proofs.not_earlier.Statement.{statement}
+use Rattle.table.proofs.not_earlier.Tie as tie
+use Rattle.table.proofs.not_earlier.Reads as reads
+use Rattle.table.proofs.not_earlier.Lts as lts
+use Rattle.table.proofs.below.Reads as below-reads
+use Rattle.table.proofs.lowered.Reads as lowered-reads
+use Rattle.table.proofs.name_at.Reads as name-at-reads
+use Rattle.table.proofs.raised.Reads as raised-reads
+use Rattle.table.proofs.same.Reads as same-reads
+
+abbrev Inv-loop : tie.InvT-loop
+Inv-loop n table p v refs k i mark x lo₀ hi₀ lo hi = Searched table p x lo hi
+
+abbrev μ-loop : tie.MeasureT-loop
+μ-loop n table p v refs k i mark x lo₀ hi₀ lo hi = hi - lo
+
+abbrev Inv-entries : tie.InvT-entries
+Inv-entries n table p v refs k i₀ i = (i ≤ k) × (anyTo (stray table p v) i ≡ false)
+
+abbrev μ-entries : tie.MeasureT-entries
+μ-entries n table p v refs k i₀ i = k - i
+
+entries-holds : tie.Need-entries-holds Inv-loop μ-loop Inv-entries μ-entries
+entries-holds c = (omega arith, any-start _)
+
+mul-mark : tie.Need-mul-mark Inv-loop μ-loop Inv-entries μ-entries
+mul-mark c = search needs
+
+array-read-mark : tie.Need-array-read-mark Inv-loop μ-loop Inv-entries μ-entries
+array-read-mark c = search needs
+
+sub-t22 : tie.Need-sub-t22 Inv-loop μ-loop Inv-entries μ-entries
+sub-t22 c = search needs
+
+cast-t23 : tie.Need-cast-t23 Inv-loop μ-loop Inv-entries μ-entries
+cast-t23 c = search needs
+
+loop-holds : tie.Need-loop-holds Inv-loop μ-loop Inv-entries μ-entries
+loop-holds c = searched-start _ _ _
+
+sub-m : tie.Need-sub-m Inv-loop μ-loop Inv-entries μ-entries
+sub-m c = search needs
+
+add-m : tie.Need-add-m Inv-loop μ-loop Inv-entries μ-entries
+add-m c = search needs
+
+name-at-requires : tie.Need-name-at-requires Inv-loop μ-loop Inv-entries μ-entries
+name-at-requires c κs = search needs
+
+same-requires : tie.Need-same-requires Inv-loop μ-loop Inv-entries μ-entries
+same-requires c κs = search needs
+
+below-requires : tie.Need-below-requires Inv-loop μ-loop Inv-entries μ-entries
+below-requires c κs = search needs
+
+raised-requires : tie.Need-raised-requires Inv-loop μ-loop Inv-entries μ-entries
+raised-requires c κs = search needs
+
+lowered-requires : tie.Need-lowered-requires Inv-loop μ-loop Inv-entries μ-entries
+lowered-requires c κs = search needs
+
+loop-less : tie.Need-loop-less Inv-loop μ-loop Inv-entries μ-entries
+loop-less c =
+    let b = c .before .before in
+    let l = b .before .before .before .before .before in
+    halved (b .below .result) (l .loop .lo) (l .loop .hi) _ _ _ refl (omega arith) (c .before .raised .ensures) (c .lowered .ensures) .less
+
+loop-again : tie.Need-loop-again Inv-loop μ-loop Inv-entries μ-entries
+loop-again c =
+    let b = c .before .before in
+    let y = b .before .before .before in
+    let l = y .before .before in
+    let s = l .before .before .before .before .before .before .before in
+    let t = s .args .table .now in
+    let x = named (s .args .v .round - 1) (l .before .before .before .before .entries .i) (entry (s .args .v) (l .before .before .before .before .entries .i)) in
+    let m = l .loop .lo + (l .loop .hi - l .loop .lo) / 2 in
+    let other : sameName (nameAt t m) x ≡ false = rw (← y .name-at .ensures, ← b .before .before .same .ensures) (b .before .if4 .left) in
+    let held : b .below .result ≡ below (nameAt t m) x = rw (← y .name-at .ensures) (b .below .ensures) in
+    searched-turn t (s .args .p) x (rise (s .args .n) t (s .args .p) (s .args .v) (s .pre)) (l .loop .lo) (l .loop .hi) m refl (omega arith) (l .loop .inv) other (b .below .result) _ _ held (c .before .raised .ensures) (c .lowered .ensures)
+
+add-i : tie.Need-add-i Inv-loop μ-loop Inv-entries μ-entries
+add-i c = search needs
+
+entries-less : tie.Need-entries-less Inv-loop μ-loop Inv-entries μ-entries
+entries-less c = search needs
+
+entries-again : tie.Need-entries-again Inv-loop μ-loop Inv-entries μ-entries
+entries-again c =
+    let e = c .before .before in
+    let s = e .before .before .before in
+    let t = s .args .table .now in
+    let i = e .entries .i in
+    let v = s .args .v in
+    let none : stray t (s .args .p) v i ≡ false =
+    ⊎-elim
+    (λ w.
+    let x = named (v .round - 1) i (entry v i) in
+    let m = w .2 .lo + (w .2 .hi - w .2 .lo) / 2 in
+    let low : m < s .args .p = omega (arith, w .2 .inv .within) in
+    let found : sameName (nameAt t m) x ≡ true = rw (← w .4 .ensures, ← w .5 .ensures) (w .6 .taken) in
+    not-stray (s .args .n) t (s .args .p) v (s .pre) i x (entry-named v i) (w .0 .taken) m low found)
+    (λ w. stray-empty t (s .args .p) v i (w .left))
+    (c .if2 .came)
+    in
+    (omega arith, any-next (stray t (s .args .p) v) i none (e .entries .inv .1))
+
+returns : tie.Need-returns Inv-loop μ-loop Inv-entries μ-entries
+returns c =
+    let e = c .before in
+    let s = e .before .before .before in
+    let all : e .entries .i ≡ s .args .n = omega arith in
+    sym (none-stray (s .args .n) (s .args .table .now) (s .args .p) (s .args .v) (s .pre) (rw all at (e .entries .inv .1)))
+
+returns-2 : tie.Need-returns-2 Inv-loop μ-loop Inv-entries μ-entries
+returns-2 c =
+    let l = c .before in
+    let e = l .before .before .before .before in
+    let s = e .before .before .before in
+    let i = e .entries .i in
+    let v = s .args .v in
+    sym (some-stray (s .args .n) (s .args .table .now) (s .args .p) v (s .pre) i (named (v .round - 1) i (entry v i)) (entry-named v i) (l .before .before .if2 .taken) (omega arith) (l .loop .lo) (l .loop .hi) (omega arith) (l .loop .inv))
+
+pub not-earlier-spec : {M : Type 1} → statement M
+not-earlier-spec =
+    tie.close
+    (tie.spec
+    Inv-loop
+    μ-loop
+    Inv-entries
+    μ-entries
+    entries-holds
+    mul-mark
+    array-read-mark
+    sub-t22
+    cast-t23
+    loop-holds
+    sub-m
+    add-m
+    name-at-requires
+    same-requires
+    below-requires
+    raised-requires
+    lowered-requires
+    loop-less
+    loop-again
+    add-i
+    entries-less
+    entries-again
+    returns
+    returns-2)

@@ -1,0 +1,89 @@
+-- `table::place_of` meets its contract. The loop's invariant: what is left to halve answers as the whole.
+-- The measure is how many records are left.
+-- Assumes nothing.
+use Prim.Native.Nat.{ℕ, _+_, _-_, _/_, _≤_}
+use mathlib.Core.Path.{_≡_, refl, sym, _∙_}
+use mathlib.Core.Bool.{Bool}
+use mathlib.Core.List.{List}
+use Rattle.rules.specs.declared.Name.{Name}
+use Rattle.rules.specs.Record.{below}
+use Rattle.table.specs.Search.{halves, nameAt, placeOf}
+use Rattle.table.proofs.Search.{place-start, halves-end, halved, halves-turn}
+use native.Mathlib.Omega.{arith}
+use borrow.Author.Needs.{needs}
+use Rattle.table.proofs.place_of.Statement.{statement}
+use Rattle.table.proofs.place_of.Tie as tie
+use Rattle.table.proofs.place_of.Reads as reads
+use Rattle.table.proofs.place_of.Lts as lts
+use Rattle.table.proofs.below.Reads as below-reads
+use Rattle.table.proofs.lowered.Reads as lowered-reads
+use Rattle.table.proofs.name_at.Reads as name-at-reads
+use Rattle.table.proofs.raised.Reads as raised-reads
+
+-- record p stands below x
+abbrev lower : List ℕ → Name → ℕ → Bool
+lower t x p = below (nameAt t p) x
+
+abbrev Inv-loop : tie.InvT-loop
+Inv-loop table k x lo₀ hi₀ lo hi = (lo ≤ hi) × (hi ≤ k) × (placeOf table k x ≡ halves (lower table x) (hi - lo) lo hi)
+
+abbrev μ-loop : tie.MeasureT-loop
+μ-loop table k x lo₀ hi₀ lo hi = hi - lo
+
+loop-holds : tie.Need-loop-holds Inv-loop μ-loop
+loop-holds c = (omega arith, omega arith, place-start (c .before .args .table .now) (c .before .args .k) (c .before .args .x))
+
+sub-m : tie.Need-sub-m Inv-loop μ-loop
+sub-m c = search needs
+
+add-m : tie.Need-add-m Inv-loop μ-loop
+add-m c = search needs
+
+name-at-requires : tie.Need-name-at-requires Inv-loop μ-loop
+name-at-requires c κs = search needs
+
+below-requires : tie.Need-below-requires Inv-loop μ-loop
+below-requires c κs = search needs
+
+raised-requires : tie.Need-raised-requires Inv-loop μ-loop
+raised-requires c κs = search needs
+
+lowered-requires : tie.Need-lowered-requires Inv-loop μ-loop
+lowered-requires c κs = search needs
+
+loop-less : tie.Need-loop-less Inv-loop μ-loop
+loop-less c =
+    let l = c .before .before .before .before .before in
+    halved (c .before .before .below .result) (l .loop .lo) (l .loop .hi) _ _ _ refl (omega arith) (c .before .raised .ensures) (c .lowered .ensures) .less
+
+loop-again : tie.Need-loop-again Inv-loop μ-loop
+loop-again c =
+    let l = c .before .before .before .before .before in
+    let a = l .before .before .args in
+    let held = c .before .before .below .result in
+    let h = halved held (l .loop .lo) (l .loop .hi) _ _ _ refl (omega arith) (c .before .raised .ensures) (c .lowered .ensures) in
+    let e : held ≡ lower (a .table .now) (a .x) (l .loop .lo + (l .loop .hi - l .loop .lo) / 2) = rw (← c .before .before .before .name-at .ensures) (c .before .before .below .ensures) in
+    (h .ordered, omega (arith, h .within), l .loop .inv .2 ∙ halves-turn held (l .loop .lo) (l .loop .hi) _ _ _ refl (omega arith) (c .before .raised .ensures) (c .lowered .ensures) (lower (a .table .now) (a .x)) e)
+
+returns : tie.Need-returns Inv-loop μ-loop
+returns c =
+    let l = c .before in
+    let a = l .before .before .args in
+    sym (l .loop .inv .2 ∙ halves-end (lower (a .table .now) (a .x)) _ (l .loop .lo) (l .loop .hi) (omega arith))
+
+pub place-of-spec : {M : Type 1} → statement M
+place-of-spec =
+    tie.close
+    (tie.spec
+    Inv-loop
+    μ-loop
+    loop-holds
+    sub-m
+    add-m
+    name-at-requires
+    below-requires
+    raised-requires
+    lowered-requires
+    loop-less
+    loop-again
+    returns)

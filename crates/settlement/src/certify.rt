@@ -7,8 +7,8 @@ ghost use Rattle.rules.specs.Authors.{quorum};
 ghost use Rattle.rules.specs.Record.{first, records, vertices, at, entry, vertexOf};
 ghost use Rattle.rules.specs.Check.{check};
 ghost use Rattle.settlement.specs.Certify.{backs, countMark, enoughOf, certifiedAt};
-use crate::range::entry_at;
 use crate::range::RECORD;
+use crate::range::entry_at;
 use rules::Name;
 use table::find;
 

@@ -16,11 +16,11 @@ ghost use Rattle.settlement.specs.Range.{startOf};
 ghost use Rattle.settlement.specs.Cells.{stopAt, CellsFrom, Walked};
 use crate::direct::direct_commit;
 use crate::direct::direct_skip;
+use crate::history::Walk;
 use crate::history::certified_in;
 use crate::history::walk_to;
-use crate::history::Walk;
-use crate::range::begin;
 use crate::range::RECORD;
+use crate::range::begin;
 
 // A round's cell, and how far the history of an anchor is marked then.
 pub(crate) struct Round {
@@ -100,7 +100,14 @@ fn through_anchor(n: u8, table: &[u8], round: u32, a: usize, walk: Walk, marks: 
 }
 
 // One round, where the cells above it hold the decisions of theirs.
-fn decide_round(n: u8, table: &[u8], round: u32, cells: &[u32], walk: Walk, marks: &mut [u8]) -> Round
+fn decide_round(
+    n: u8,
+    table: &[u8],
+    round: u32,
+    cells: &[u32],
+    walk: Walk,
+    marks: &mut [u8],
+) -> Round
     requires { ⌜ check first n (now table) ≡ Passed ⌝ }
     requires { ⌜ 0 < round ⌝ }
     requires { ⌜ round ≤ highest (vertices first (now table)) ⌝ }

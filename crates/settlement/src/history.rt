@@ -16,8 +16,8 @@ ghost use Rattle.settlement.specs.Work.{historyAt};
 ghost use Rattle.settlement.specs.Sweep.{Swept};
 ghost use Rattle.settlement.specs.Cells.{firstIn, Walked};
 use crate::certify::certified_at;
-use crate::range::begin;
 use crate::range::RECORD;
+use crate::range::begin;
 use rules::Name;
 use table::find;
 
@@ -112,7 +112,14 @@ fn sweep(n: u8, table: &[u8], a: usize, from: usize, to: usize, marks: &mut [u8]
 }
 
 // The history of the anchor at a, as far down as `to`. The walk in hand goes on if it is of the same anchor.
-pub(crate) fn walk_to(n: u8, table: &[u8], a: usize, to: usize, walk: Walk, marks: &mut [u8]) -> Walk
+pub(crate) fn walk_to(
+    n: u8,
+    table: &[u8],
+    a: usize,
+    to: usize,
+    walk: Walk,
+    marks: &mut [u8],
+) -> Walk
     requires { ⌜ check first n (now table) ≡ Passed ⌝ }
     requires { ⌜ a < records first (now table) ⌝ }
     requires { ⌜ to ≤ a ⌝ }
@@ -148,7 +155,15 @@ fn lower(a: usize, b: usize) -> usize
 }
 
 // The lowest-mark vertex of the slot that some vertex in the history certifies, or the number of records.
-pub(crate) fn certified_in(n: u8, table: &[u8], round: u32, leader: u8, a: usize, done: usize, marks: &[u8]) -> usize
+pub(crate) fn certified_in(
+    n: u8,
+    table: &[u8],
+    round: u32,
+    leader: u8,
+    a: usize,
+    done: usize,
+    marks: &[u8],
+) -> usize
     requires { ⌜ check first n (now table) ≡ Passed ⌝ }
     requires { ⌜ round ≤ 1400 ⌝ }
     requires { ⌜ records first (now table) ≤ length (now marks) ⌝ }

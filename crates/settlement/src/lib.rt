@@ -7,6 +7,7 @@ use rules::Counts;
 use rules::Outcome;
 use rules::Refusal;
 use rules::Settlement;
+
 mod certify;
 mod counts;
 mod decide;
@@ -26,7 +27,13 @@ fn refused(r: Refusal) -> Settlement
 
 // Checks the table, decides every round and writes the order. A refusal changes no lent byte. The taken bytes serve as work space
 // before they are written.
-pub fn settle(n: u8, table: &[u8], cells: &mut [u32], order: &mut [u32], taken: &mut [u8]) -> Settlement
+pub fn settle(
+    n: u8,
+    table: &[u8],
+    cells: &mut [u32],
+    order: &mut [u32],
+    taken: &mut [u8],
+) -> Settlement
     ensures { λ r. ⌜ SettlesTo n (now (table .entry)) (lent (now (cells .entry)) (now (order .entry)) (now (taken .entry))) r (lent (now (cells .exit)) (now (order .exit)) (now (taken .exit))) ⌝ }
 {
     let c = table::check(n, table);

@@ -69,8 +69,7 @@ fn mark_more(n: u8, table: &[u8], p: usize, low: usize, taken: &mut [u8]) -> usi
 }
 
 // What is to be written for the leader vertex at a is marked, from it downward, as far as anything is marked. Answers how far.
-fn mark_down(n: u8, table: &[u8], a: usize, taken: &mut [u8]) -> usize
-{
+fn mark_down(n: u8, table: &[u8], a: usize, taken: &mut [u8]) -> usize {
     if taken[a] == 0 {
         taken[a] = 2;
     }
@@ -86,8 +85,7 @@ fn mark_down(n: u8, table: &[u8], a: usize, taken: &mut [u8]) -> usize
 }
 
 // What is marked from `low` up to a is written, in table order, from place `count` on. Answers the count then.
-fn write_marked(a: usize, low: usize, order: &mut [u32], taken: &mut [u8], count: usize) -> usize
-{
+fn write_marked(a: usize, low: usize, order: &mut [u32], taken: &mut [u8], count: usize) -> usize {
     let mut c = count;
     let mut p = low;
     while p <= a {
@@ -102,15 +100,27 @@ fn write_marked(a: usize, low: usize, order: &mut [u32], taken: &mut [u8], count
 }
 
 // One committed leader vertex more.
-fn write_leader(n: u8, table: &[u8], a: usize, order: &mut [u32], taken: &mut [u8], count: usize) -> usize
-{
+fn write_leader(
+    n: u8,
+    table: &[u8],
+    a: usize,
+    order: &mut [u32],
+    taken: &mut [u8],
+    count: usize,
+) -> usize {
     let low = mark_down(n, table, a, taken);
     write_marked(a, low, order, taken, count)
 }
 
 // The rounds before the first undecided one. Answers how many are written.
-pub(crate) fn write_order(n: u8, table: &[u8], top: usize, cells: &[u32], order: &mut [u32], taken: &mut [u8]) -> usize
-{
+pub(crate) fn write_order(
+    n: u8,
+    table: &[u8],
+    top: usize,
+    cells: &[u32],
+    order: &mut [u32],
+    taken: &mut [u8],
+) -> usize {
     clear(taken, table.len() / RECORD);
     let mut count: usize = 0;
     let mut s: usize = 0;

@@ -60,7 +60,15 @@ fn window_tag(p: usize, b: usize, e: usize) -> u8
 }
 
 // On the vertices two rounds up, which of the vertices from b up to e of the slot they certify.
-pub(crate) fn tag_certified(n: u8, table: &[u8], round: u32, leader: u8, b: usize, e: usize, marks: &mut [u8])
+pub(crate) fn tag_certified(
+    n: u8,
+    table: &[u8],
+    round: u32,
+    leader: u8,
+    b: usize,
+    e: usize,
+    marks: &mut [u8],
+)
     requires { ⌜ check first n (now table) ≡ Passed ⌝ }
     requires { ⌜ round ≤ 1400 ⌝ }
     requires { ⌜ e ≤ b + 127 ⌝ }

@@ -73,8 +73,8 @@ module _ (t : List ℕ) (p : ℕ) (x : Name) (r : Rise t p) (lo hi m : ℕ) (is 
     ordered = omega arith;
     within = S .within;
     low = λ j h. by-test (ltb j m)
-      (λ e. not-lower x (nameAt t j) (below-trans _ _ _ (r j m (ltb-true j m e) m-low) (below-is _ _ b)))
-      (λ e. let q : j ≡ m = omega (arith, ltb-false j m e) in subst (λ i. sameName (nameAt t i) x ≡ false) (sym q) other);
+        (λ e. not-lower x (nameAt t j) (below-trans _ _ _ (r j m (ltb-true j m e) m-low) (below-is _ _ b)))
+        (λ e. let q : j ≡ m = omega (arith, ltb-false j m e) in subst (λ i. sameName (nameAt t i) x ≡ false) (sym q) other);
     high = S .high;
   }
 
@@ -84,8 +84,8 @@ module _ (t : List ℕ) (p : ℕ) (x : Name) (r : Rise t p) (lo hi m : ℕ) (is 
     within = omega (arith, S .within);
     low = S .low;
     high = λ j h h′. by-test (ltb m j)
-      (λ e. not-higher x (nameAt t j) (below-trans _ _ _ (higher x (nameAt t m) other b) (r m j (ltb-true m j e) h′)))
-      (λ e. let q : j ≡ m = omega (arith, ltb-false m j e) in subst (λ i. sameName (nameAt t i) x ≡ false) (sym q) other);
+        (λ e. not-higher x (nameAt t j) (below-trans _ _ _ (higher x (nameAt t m) other b) (r m j (ltb-true m j e) h′)))
+        (λ e. let q : j ≡ m = omega (arith, ltb-false m j e) in subst (λ i. sameName (nameAt t i) x ≡ false) (sym q) other);
   }
 
   pub searched-turn : (held : Bool) (lo′ hi′ : ℕ) → held ≡ below (nameAt t m) x → lo′ ≡ cond held (m + 1) lo → hi′ ≡ cond held hi m → Searched t p x lo′ hi′

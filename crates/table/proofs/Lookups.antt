@@ -41,8 +41,8 @@ module _ (t : List ℕ) (x : Name) (r : Rise t (records first t)) where
 
   falls : Falls (λ p. below (nameAt t p) x) k
   falls i j l h e = by-test (ltb i j)
-    (λ b. failed _ (λ s. not-both (is-below _ _ (below-trans _ _ _ (r i j (ltb-true i j b) h) (below-is _ _ s))) e))
-    (λ b. let q : i ≡ j = omega (arith, ltb-false i j b) in subst (λ o. below (nameAt t o) x ≡ false) q e)
+      (λ b. failed _ (λ s. not-both (is-below _ _ (below-trans _ _ _ (r i j (ltb-true i j b) h) (below-is _ _ s))) e))
+      (λ b. let q : i ≡ j = omega (arith, ltb-false i j b) in subst (λ o. below (nameAt t o) x ≡ false) q e)
 
   place-first : First (λ p. not (below (nameAt t p) x)) k m
   unfolding placeOf
@@ -55,8 +55,8 @@ module _ (t : List ℕ) (x : Name) (r : Rise t (records first t)) where
   -- nor has one after it, unless the one at it has
   after-place : (i : ℕ) → m ≤ i → i < k → sameName (nameAt t m) x ≡ false → sameName (nameAt t i) x ≡ false
   after-place i l h s = by-test (ltb m i)
-    (λ b. not-higher x (nameAt t i) (below-trans _ _ _ above (r _ i (ltb-true _ i b) h)))
-    (λ b. let q : m ≡ i = omega (arith, ltb-false m i b) in subst (λ o. sameName (nameAt t o) x ≡ false) q s)
+      (λ b. not-higher x (nameAt t i) (below-trans _ _ _ above (r _ i (ltb-true _ i b) h)))
+      (λ b. let q : m ≡ i = omega (arith, ltb-false m i b) in subst (λ o. sameName (nameAt t o) x ≡ false) q s)
     where
       above : Below x (nameAt t m)
       above = higher x _ s (not-true _ (place-first .hit (omega arith)))

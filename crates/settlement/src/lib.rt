@@ -1,4 +1,5 @@
 // The settlement: the decisions, the written order and the counts of a table, in lent buffers.
+ghost use mathlib.Core.Path.{_≡_};
 ghost use Rattle.rules.specs.Record.{first};
 ghost use Rattle.rules.specs.Settlement.{Buffers};
 ghost use Rattle.settlement.specs.Promise.{SettlesTo, lent};

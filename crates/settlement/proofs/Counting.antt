@@ -26,7 +26,7 @@ use Rattle.rules.proofs.Records.{vertices-length, vertices-at}
 use Rattle.rules.proofs.Accepted.{Accepted, accepted, author-low, rising}
 use Rattle.table.proofs.Names.{record-part, name-at}
 use Rattle.table.proofs.Records.{lent}
-use Rattle.settlement.proofs.Writing.{set-tabulate}
+use Rattle.settlement.proofs.Writing.{or-last, set-tabulate}
 
 -- ---- a search from below
 
@@ -149,11 +149,6 @@ splits vs k = tabulate (λ a. bit (anyTo (pair vs a) k)) 31
 pub splits-start : (vs : List Vertex) → replicate 31 0 ≡ splits vs 0
 unfolding tabulate anyTo
 splits-start vs = refl
-
-or-last : (b : Bool) → b ≡ b or false
-unfolding _or_
-or-last true = refl
-or-last false = refl
 
 module _ (vs : List Vertex) (p : ℕ) (l : 0 < p) where
   step : (a : ℕ) → anyTo (pair vs a) (p + 1 - 1) ≡ anyTo (pair vs a) (p - 1) or pair vs a (p - 1)

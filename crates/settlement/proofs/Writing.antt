@@ -6,15 +6,16 @@ use mathlib.Core.Logic.{_⊎_, inl, inr, ⊎-elim, _≢_}
 use mathlib.Core.Bool.{Bool, true, false, not, cond, false≢true, true≢false}
 use mathlib.Core.List.{List, [], _∷_, _++_, append-assoc}
 use native.Mathlib.Omega.{arith}
-use native.Mathlib.Nat.{le-refl, le-step}
+use native.Mathlib.Nat.{le-refl, le-step, le-of-suc-le-suc, eq-or-lt-of-le}
 use native.Mathlib.Numerals.{add-one}
 use lib.Dec.{eqb}
 use lib.ListN.{length, getD, set, take, drop, length-set, length-append, length-take, length-drop, List·getD-append, take-append-drop}
-use lib.Seq.{getD-set-same, getD-set-other, set-getD, ext-getD, drop-at, set-append-left, drop-cons, append-snoc}
+use lib.Seq.{getD-at, getD-set-same, getD-set-other, set-getD, ext-getD, drop-at, set-append-left, drop-set-lt, drop-cons, append-snoc}
 use borrow.Author.Tests.{eqb-true, eqb-false, eq-eqb, ne-eqb}
-use Rattle.folds.specs.Folds.{_and_, _or_, tabulate}
+use Rattle.folds.specs.Folds.{_and_, _or_, bit, countTo, filterTo, tabulate, member}
 use Rattle.folds.proofs.Tests.{by-test, not-both, passed, failed, compare, or-right}
-use Rattle.folds.proofs.Lists.{length-tabulate, getD-tabulate, tabulate-same, tabulate-next, put-next}
+use Rattle.folds.proofs.Laws.{count-yes, count-no}
+use Rattle.folds.proofs.Lists.{filter-yes, filter-no, filter-length, length-tabulate, getD-tabulate, tabulate-same, tabulate-next, put-next}
 use Rattle.rules.specs.declared.Vertex.{Vertex}
 use Rattle.rules.specs.Record.{first, decode, records, vertices, at, nameOf, entry, entryName, find}
 use Rattle.rules.specs.Support.{references}
@@ -243,37 +244,75 @@ is-due true b e f = absurd (true≢false e)
 is-due false true e f = refl
 is-due false false e f = absurd (false≢true f)
 
-module _ {n : ℕ} {vs : List Vertex} (A : Accepted n vs) (a : ℕ) (l : a < length vs) (m : List ℕ) (room : length vs ≤ length m) (T : Told vs m) where
-  -- what is told of a vertex that is not the leader, or is written
-  told-other : (q : ℕ) → q < length vs → (q ≡ a → getD m q 0 ≢ 0) → dueFrom vs a (a + 1) m q ≡ getD m q 0
-  told-other q lq h = by-test (written m q) (λ e. rw e (sym (eqb-true _ _ e))) (λ e. rw (e, out e) (sym (zero-is (eqb-false _ _ e))))
+-- The leader vertex at a is written or due, and no other is due.
+pub record Begun (vs : List Vertex) (a : ℕ) (m : List ℕ) : Type 0 where
+  pub low : (q : ℕ) → q < length vs → q ≢ a → getD m q 0 ≤ 1
+  pub leader : (getD m a 0 ≡ 1) ⊎ (getD m a 0 ≡ 2)
+  pub closed : (p q : ℕ) → p < length vs → q < length vs → getD m p 0 ≡ 1 → references (at vs p) (nameOf (at vs q)) ≡ true → getD m q 0 ≡ 1
+
+module _ {vs : List Vertex} (a : ℕ) (l : a < length vs) (m : List ℕ) (room : length vs ≤ length m) (T : Told vs m) (low : ℕ) (m′ : List ℕ) (one : MarkedOne a a m low m′) where
+  -- the leader alone may have changed
+  same-other : (q : ℕ) → q ≢ a → getD m′ q 0 ≡ getD m q 0
+  same-other q d = ap (λ b. getD b q 0) (one .bytes) ∙ getD-set-other m a q _ 0 d
+
+  leader-byte : getD m′ a 0 ≡ cond (eqb (getD m a 0) 0) 2 (getD m a 0)
+  leader-byte = ap (λ b. getD b a 0) (one .bytes) ∙ getD-set-same m a _ 0 (omega arith)
+
+  leader-is : ((getD m a 0 ≡ 0) × (getD m′ a 0 ≡ 2)) ⊎ ((getD m a 0 ≡ 1) × (getD m′ a 0 ≡ 1))
+  leader-is = by-test (eqb (getD m a 0) 0)
+      (λ e. inl (eqb-true _ _ e, leader-byte ∙ rw e))
+      (λ e. let d = eqb-false (getD m a 0) 0 e in let is : getD m a 0 ≡ 1 = omega (arith, d, T .low a l) in inr (is, leader-byte ∙ rw e is))
+
+  -- what is written stays so
+  same-written : (q : ℕ) → written m′ q ≡ written m q
+  same-written q = by-test (eqb q a) (λ e. let w : q ≡ a = eqb-true q a e in rw w (here leader-is)) (λ e. ap (λ x. eqb x 1) (same-other q (eqb-false q a e)))
     where
-      zero-is : getD m q 0 ≢ 1 → getD m q 0 ≡ 0
-      zero-is d = omega (arith, T .low q lq)
+      here : ((getD m a 0 ≡ 0) × (getD m′ a 0 ≡ 2)) ⊎ ((getD m a 0 ≡ 1) × (getD m′ a 0 ≡ 1)) → written m′ a ≡ written m a
+      here (inl (e, f)) = rw (e, f)
+      here (inr (e, f)) = rw (e, f)
 
-      out : written m q ≡ false → markedFrom vs a (a + 1) q ≡ false
-      out e = rw (add-one a) (marked-start A a l q ∙ ne-eqb q a (λ w. h w (zero-is (eqb-false _ _ e))))
+  is-written : (q : ℕ) → getD m′ q 0 ≡ 1 → getD m q 0 ≡ 1
+  is-written q e = eqb-true _ _ (sym (same-written q) ∙ eq-eqb _ _ e)
 
-  start-low : (new : List ℕ) → new ≡ bytesOver (dueFrom vs a (a + 1) m) (length vs) m → (q : ℕ) → q < a → getD new q 0 ≡ 2 → ⊥
-  start-low new e q h d =
-      let at-q = ap (λ b. getD b q 0) e ∙ over-at (dueFrom vs a (a + 1) m) (length vs) m q (omega arith) ∙ told-other q (omega arith) (λ w. absurd (omega arith)) in
-      omega (arith, at-q, T .low q (omega arith))
+  pub begun : Begun vs a m′
+  begun = record {
+    low = λ q lq d. omega (arith, same-other q d, T .low q lq);
+    leader = ⊎-elim (λ e. inr (e .1)) (λ e. inl (e .1)) leader-is;
+    closed = λ p q lp lq e r. eqb-true _ _ (same-written q ∙ eq-eqb _ _ (T .closed p q lp lq (is-written p e) r));
+  }
 
-  start-from : (new : List ℕ) → length new ≡ length m → new ≡ bytesOver (dueFrom vs a (a + 1) m) (length vs) m → Down vs a m (a + 1) a new
-  start-from new k e = record { kept = k; within = omega arith; lower = le-refl a; none-below = start-low new e; bytes = e }
+  pub begun-length : length m′ ≡ length m
+  begun-length = ap length (one .bytes) ∙ length-set m a _
 
-  -- the leader is written
-  pub down-written : getD m a 0 ≢ 0 → Down vs a m (a + 1) a m
-  down-written d = start-from m refl (over-none _ (length vs) m room (λ q lq. told-other q lq (λ w. subst (λ j. getD m j 0 ≢ 0) (sym w) d)))
+  -- what is due then is due to the bytes before
+  pub down-of : (low′ : ℕ) (b : List ℕ) → MarkedDown vs a m′ low′ b → MarkedDown vs a m low′ b
+  unfolding bytesOver
+  down-of low′ b D = record {
+    bytes = D .bytes ∙ ap (bytesOver (dueFrom vs a 0 m′) (length vs)) (one .bytes)
+        ∙ ap (λ d. tabulate (dueFrom vs a 0 m′) (length vs) ++ d) (drop-set-lt (length vs) m a _ l)
+        ∙ over-same (dueFrom vs a 0 m′) (length vs) m (dueFrom vs a 0 m) (λ q lq. ap (λ w. byteOf w (markedFrom vs a 0 q)) (same-written q));
+    lower = D .lower;
+    none-below = D .none-below;
+  }
 
-  -- it is not, and is marked
-  pub down-start : getD m a 0 ≡ 0 → Down vs a m (a + 1) a (set m a 2)
-  down-start z = start-from (set m a 2) (length-set m a 2)
-      (ap (λ b. set b a 2) (over-none (λ q. getD m q 0) (length vs) m room (λ q lq. refl))
-      ∙ over-set (λ q. getD m q 0) (length vs) m (dueFrom vs a (a + 1) m) a 2 l (sym here) (λ q lq d. sym (told-other q lq (λ w. absurd (d w)))))
+module _ {n : ℕ} {vs : List Vertex} (A : Accepted n vs) (a : ℕ) (l : a < length vs) (m : List ℕ) (room : length vs ≤ length m) (B : Begun vs a m) where
+  told-start : (q : ℕ) → q < length vs → dueFrom vs a (a + 1) m q ≡ getD m q 0
+  told-start q lq = rw (add-one a, marked-start A a l q) (by-test (eqb q a) (λ e. rw e (leads (eqb-true q a e))) (λ e. rw e (other (eqb-false q a e))))
     where
-      here : dueFrom vs a (a + 1) m a ≡ 2
-      here = is-due (written m a) (markedFrom vs a (a + 1) a) (ne-eqb (getD m a 0) 1 (λ e. omega (arith, z, e))) (marked-self A a l (a + 1) a refl)
+      leads : q ≡ a → byteOf (written m q) true ≡ getD m q 0
+      leads e = rw e (⊎-elim (λ k. rw k) (λ k. rw k) (B .leader))
+
+      other : q ≢ a → byteOf (written m q) false ≡ getD m q 0
+      other d = by-test (written m q) (λ e. rw e (sym (eqb-true _ _ e))) (λ e. let f = eqb-false (getD m q 0) 1 e in rw e (omega (arith, f, B .low q lq d)))
+
+  pub down-start : (low : ℕ) → low ≤ a → Down vs a m (a + 1) low m
+  down-start low h = record {
+    kept = refl;
+    within = omega arith;
+    lower = h;
+    none-below = λ q lq e. omega (arith, B .low q (omega arith) (λ w. omega arith));
+    bytes = over-none _ (length vs) m room told-start;
+  }
 
   module _ (p low : ℕ) (b : List ℕ) (D : Down vs a m (suc p) low b) where
     lp : p < length vs
@@ -286,7 +325,7 @@ module _ {n : ℕ} {vs : List Vertex} (A : Accepted n vs) (a : ℕ) (l : a < len
     in-history = marked-history A a l (suc p) p lp (le-refl (suc p))
 
     -- the vertex at p is due, and marks what it references
-    pub down-next : (low′ : ℕ) (b′ : List ℕ) → getD b p 0 ≡ 2 → MarkedMore vs p low b low′ b′ → Down vs a m p low′ b′
+    down-next : (low′ : ℕ) (b′ : List ℕ) → getD b p 0 ≡ 2 → MarkedMore vs p low b low′ b′ → Down vs a m p low′ b′
     down-next low′ b′ two more = record {
       kept = ap length (more .bytes) ∙ over-length _ (length vs) b (rw (D .kept) room) ∙ D .kept;
       within = omega (arith, D .within);
@@ -306,7 +345,7 @@ module _ {n : ℕ} {vs : List Vertex} (A : Accepted n vs) (a : ℕ) (l : a < len
             ∙ ap (byteOf (written m q)) (sym (marked-next A a l p q belongs))
 
     -- it is not due: it is written, and so is all that it references; or it is not in the history
-    pub down-same : (getD b p 0 ≡ 2 → ⊥) → Down vs a m p low b
+    down-same : (getD b p 0 ≡ 2 → ⊥) → Down vs a m p low b
     down-same d = record {
       kept = D .kept;
       within = omega (arith, D .within);
@@ -321,10 +360,97 @@ module _ {n : ℕ} {vs : List Vertex} (A : Accepted n vs) (a : ℕ) (l : a < len
             inside : getD (history references vs a) p false ≡ true → markedFrom vs a p q ≡ markedFrom vs a (suc p) q
             inside t =
                 let w : written m p ≡ true = passed _ (λ f. d (at-p ∙ is-due (written m p) (markedFrom vs a (suc p) p) f (in-history ∙ t))) in
-                let none : references (at vs p) (nameOf (at vs q)) ≡ false = failed _ (λ r. not-both (eq-eqb _ _ (T .closed p q lp lq (eqb-true _ _ w) r)) e) in
+                let none : references (at vs p) (nameOf (at vs q)) ≡ false = failed _ (λ r. not-both (eq-eqb _ _ (B .closed p q lp lq (eqb-true _ _ w) r)) e) in
                 marked-next A a l p q t ∙ ap (λ x. markedFrom vs a (suc p) q or x) none ∙ sym (or-last _)
+
+  -- one position further down
+  module _ (p low : ℕ) (b : List ℕ) (h : low < p) (D : Down vs a m p low b) where
+    at-suc : Down vs a m (suc (p - 1)) low b
+    at-suc = let e : p ≡ suc (p - 1) = omega arith in subst (λ j. Down vs a m j low b) e D
+
+    pub down-due : (low′ : ℕ) (b′ : List ℕ) → getD b (p - 1) 0 ≡ 2 → MarkedMore vs (p - 1) low b low′ b′ → Down vs a m (p - 1) low′ b′
+    down-due = down-next (p - 1) low b at-suc
+
+    pub down-other : (getD b (p - 1) 0 ≡ 2 → ⊥) → Down vs a m (p - 1) low b
+    down-other = down-same (p - 1) low b at-suc
 
   -- below the lowest that is due nothing is, so nothing more would be marked
   pub down-end : (p low : ℕ) (b : List ℕ) → p ≤ low → Down vs a m p low b → MarkedDown vs a m low b
   down-end zero low b h D = record { bytes = D .bytes; lower = D .lower; none-below = D .none-below }
   down-end (suc p) low b h D = down-end p low b (omega arith) (down-same p low b D (D .none-below p h))
+
+-- ---- what is due is written
+
+-- nothing passes
+filter-none : (t : ℕ → Bool) (k : ℕ) → ((i : ℕ) → i < k → t i ≡ false) → filterTo t k ≡ []
+unfolding filterTo
+filter-none t zero h = refl
+filter-none t (suc k) h = rw (filter-none t k (λ i l. h i (le-step l)), h k (le-refl (suc k)))
+
+count-up : (t : ℕ → Bool) (i k : ℕ) → i ≤ k → countTo t i ≤ countTo t k
+unfolding countTo
+count-up t i zero l = let e : i ≡ 0 = omega arith in rw e (le-refl 0)
+count-up t i (suc k) l = ⊎-elim (λ e. rw e (le-refl (countTo t k + bit (t k)))) (λ h. omega (arith, count-up t i k (le-of-suc-le-suc h))) (eq-or-lt-of-le l)
+
+-- one that passes has a place among those that do
+pub count-room : (t : ℕ → Bool) (i k : ℕ) → i < k → t i ≡ true → countTo t i < countTo t k
+count-room t i k l e = omega (arith, count-yes t i (countTo t i) e refl, count-up t (i + 1) k (omega arith))
+
+-- What is due becomes written.
+abbrev pub doneAt : List ℕ → ℕ → ℕ
+doneAt m q = cond (due m q) 1 (getD m q 0)
+
+-- Of the positions below p, what is due is written, from place `count` on.
+pub record Put (m o : List ℕ) (count p c : ℕ) (m′ o′ : List ℕ) : Type 0 where
+  pub counted : c ≡ count + countTo (due m) p
+  pub places : o′ ≡ placesOver count (filterTo (due m) p) o
+  pub bytes : m′ ≡ bytesOver (doneAt m) p m
+  pub kept : length m′ ≡ length m
+  pub kept-places : length o′ ≡ length o
+
+pub put-start : (m o : List ℕ) (count low : ℕ) → low ≤ length m → ((q : ℕ) → q < low → getD m q 0 ≡ 2 → ⊥) → Put m o count low count m o
+put-start m o count low l h =
+    let none : filterTo (due m) low ≡ [] = filter-none (due m) low (λ i li. ne-eqb _ _ (h i li)) in
+    let zero-is : 0 ≡ countTo (due m) low = ap length (sym none) ∙ filter-length (due m) low in
+    record {
+      counted = omega arith;
+      places = places-none count o ∙ ap (λ w. placesOver count w o) (sym none);
+      bytes = over-none (doneAt m) low m l (λ q lq. rw (ne-eqb _ _ (h q lq)));
+      kept = refl;
+      kept-places = refl;
+    }
+
+module _ (m o : List ℕ) (count p c : ℕ) (m′ o′ : List ℕ) (P : Put m o count p c m′ o′) where
+  -- the byte at p is as before
+  pub put-byte : p < length m → getD m′ p 0 ≡ getD m p 0
+  unfolding bytesOver
+  put-byte l = ap (λ b. getD b p 0) (P .bytes ∙ ap (λ d. tabulate (doneAt m) p ++ d) (drop-cons m p 0 l)) ∙ getD-at (tabulate (doneAt m) p) (getD m p 0) (drop (suc p) m) 0 p (length-tabulate (doneAt m) p)
+
+  pub put-no : p < length m → (getD m′ p 0 ≡ 2 → ⊥) → Put m o count (p + 1) c m′ o′
+  put-no l d =
+      let t : due m p ≡ false = ne-eqb _ _ (λ e. d (put-byte l ∙ e)) in
+      record {
+        counted = P .counted ∙ ap (λ k. count + k) (count-no (due m) p (countTo (due m) p) t refl);
+        places = P .places ∙ ap (λ w. placesOver count w o) (sym (filter-no (due m) p t));
+        bytes = P .bytes ∙ over-keep (doneAt m) p m l (rw t);
+        kept = P .kept;
+        kept-places = P .kept-places;
+      }
+
+  pub put-yes : p < length m → count ≤ length o → c < length o → getD m′ p 0 ≡ 2 → Put m o count (p + 1) (c + 1) (set m′ p 1) (set o′ c p)
+  put-yes l w r e =
+      let t : due m p ≡ true = eq-eqb _ _ (sym (put-byte l) ∙ e) in
+      let long : length (filterTo (due m) p) ≡ countTo (due m) p = filter-length (due m) p in
+      let end : c ≡ count + length (filterTo (due m) p) = omega (arith, P .counted) in
+      record {
+        counted = omega (arith, P .counted, count-yes (due m) p (countTo (due m) p) t refl);
+        places = ap (λ b. set b c p) (P .places) ∙ ap (λ k. set (placesOver count (filterTo (due m) p) o) k p) end
+            ∙ places-next count (filterTo (due m) p) o w p (omega arith) ∙ ap (λ b. placesOver count b o) (sym (filter-yes (due m) p t));
+        bytes = ap (λ b. set b p 1) (P .bytes) ∙ over-next (doneAt m) p m 1 l (rw t);
+        kept = length-set m′ p 1 ∙ P .kept;
+        kept-places = length-set o′ c p ∙ P .kept-places;
+      }
+
+  -- there is room for it
+  pub put-room : (a : ℕ) → p ≤ a → a < length m → count + countTo (due m) (a + 1) ≤ length o → getD m′ p 0 ≡ 2 → c < length o
+  put-room a h l r e = omega (arith, P .counted, count-room (due m) p (a + 1) (omega arith) (eq-eqb _ _ (sym (put-byte (omega arith)) ∙ e)))

@@ -76,10 +76,7 @@ fn mark_down(n: u8, table: &[u8], a: usize, taken: &mut [u8]) -> usize
     requires { ⌜ Told (vertices first (now table)) (now taken) ⌝ }
     ensures { λ r. ⌜ MarkedDown (vertices first (now (table .entry))) a (now (taken .entry)) r (now (taken .exit)) ⌝ }
 {
-    if taken[a] == 0 {
-        taken[a] = 2;
-    }
-    let mut low = a;
+    let mut low = mark_one(a, a, taken);
     let mut p = a + 1;
     while low < p {
         p -= 1;

@@ -295,6 +295,16 @@ forget-next m q b l e h i k = by-test (ltb i q) (λ t. rw (getD-set-other m q i 
     here : ltb i q ≡ false → historyAt (set m q b) i ≡ 0
     here t = let z : i ≡ q = omega (arith, ltb-false i q t) in rw (z, getD-set-same m q b 0 l, e) (omega arith)
 
+-- one byte alone that tells of it
+pub start-alone : (m : List ℕ) (k a b : ℕ) → a < length m → b ≡ 128 + getD m a 0 % 128 → ((i : ℕ) → i < k → historyAt m i ≡ 0)
+    → (i : ℕ) → i < k → historyAt (set m a b) i ≡ bit (eqb i a)
+start-alone m k a b l e h i li = by-test (eqb i a) here (λ t. rw (getD-set-other m a i b 0 (eqb-false i a t), t) (h i li))
+  where
+    here : eqb i a ≡ true → historyAt (set m a b) i ≡ bit (eqb i a)
+    here t =
+        let told : getD (set m a b) i 0 ≡ b = rw (eqb-true i a t) (getD-set-same m a b 0 l) in
+        rw t (omega (arith, told))
+
 -- What the first i entries of the vertex at p name is marked, beside what was.
 abbrev pub MarkedTo : List Vertex → (p i : ℕ) → List ℕ → List ℕ → Type 0
 MarkedTo vs p i old m = (q : ℕ) → q < length vs → historyAt m q ≡ bit (eqb (historyAt old q) 1 or namedTo vs p i q)

@@ -60,8 +60,11 @@ module _ {n : ℕ} {vs : List Vertex} (A : Accepted n vs) where
     pub history-self : H a ≡ true
     history-self = history-is A a a l (le-refl a) .1 itself
 
+    pub history-size : length (history references vs a) ≡ suc a
+    history-size = history-length A (references-earlier A) follows a l
+
     pub history-past : (q : ℕ) → a < q → H q ≡ false
-    history-past q h = List·getD-eq-default (history references vs a) false (omega (arith, history-length A (references-earlier A) follows a l))
+    history-past q h = List·getD-eq-default (history references vs a) false (omega (arith, history-size))
 
     pub history-low : (q : ℕ) → H q ≡ true → q ≤ a
     history-low q e = by-test (ltb a q) (λ t. absurd (not-both e (history-past q (ltb-true a q t)))) (λ t. ltb-false a q t)
@@ -108,16 +111,22 @@ module _ {n : ℕ} {vs : List Vertex} (A : Accepted n vs) where
         let lj : j ≤ a = history-low j t in
         or-right _ _ (any-intro _ (length vs) j (omega arith) (and-true _ _ (le-leb p j h) (and-true _ _ t s)))
 
-    -- of the positions from p on, and the one before, it is the whole history
-    pub marked-history : (p q : ℕ) → q < length vs → p ≤ suc q → markedFrom vs a p q ≡ H q
-    marked-history p q lq h = both-ways _ _ (λ e. to (marked-is p q e)) from
+    -- with all from p on looked at it is the whole history of a position that nothing below p references
+    pub marked-far : (p q : ℕ) → q < length vs → ((j : ℕ) → j ≤ a → q < j → steps j q ≡ true → p ≤ j) → markedFrom vs a p q ≡ H q
+    marked-far p q lq h = both-ways _ _ (λ e. to (marked-is p q e)) from
       where
         to : (q ≡ a) ⊎ ((j : ℕ) × (p ≤ j) × (H j ≡ true) × (steps j q ≡ true)) → H q ≡ true
         to (inl e) = rw e history-self
         to (inr (j, lj, t, s)) = history-step j q lq t s
 
         from : H q ≡ true → markedFrom vs a p q ≡ true
-        from e = ⊎-elim (λ k. marked-self p q k) (λ k. let w = history-from q k e in marked-by p q (w .0) (omega (arith, w .1)) (w .3) (w .4)) (eq-or-lt-of-le (history-low q e))
+        from e =
+            ⊎-elim (λ k. marked-self p q k) (λ k. let w = history-from q k e in marked-by p q (w .0) (h (w .0) (w .2) (w .1) (w .4)) (w .3) (w .4))
+            (eq-or-lt-of-le (history-low q e))
+
+    -- so it is of those from p on, and of the one before
+    pub marked-history : (p q : ℕ) → q < length vs → p ≤ suc q → markedFrom vs a p q ≡ H q
+    marked-history p q lq h = marked-far p q lq (λ j _ l _. omega arith)
 
     -- nothing above the anchor is looked at: the anchor alone
     pub marked-start : (q : ℕ) → markedFrom vs a (suc a) q ≡ eqb q a

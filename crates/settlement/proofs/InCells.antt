@@ -20,10 +20,13 @@ use Rattle.rules.specs.Record.{number, first, recordAt, decode, records, vertic
 use Rattle.rules.specs.Check.{check}
 use Rattle.rules.specs.Support.{references, certifies}
 use Rattle.rules.specs.History.{history}
-use Rattle.rules.specs.Decide.{highest, certifiedIn}
+use Rattle.rules.specs.Authors.{leader, oneLeader}
+use Rattle.rules.specs.Decision.{Decision, undecided, skipped, committed, cell}
+use Rattle.rules.specs.Decide.{document01, highest, inSlot, qualifies, lowest, choose, certifiedIn, anchor, throughAnchor, indirect, decide, decisions, decisionAt}
 use Rattle.rules.proofs.Records.{vertices-length, vertices-at}
 use Rattle.rules.proofs.Accepted.{Accepted, accepted}
 use Rattle.rules.proofs.Support.{references-is, certifies-is}
+use Rattle.rules.proofs.Decide.{lowest-first}
 use Rattle.table.proofs.Names.{record-part}
 use Rattle.settlement.specs.Range.{startOf}
 use Rattle.settlement.specs.Certify.{certifiedAt}
@@ -194,3 +197,31 @@ module _ (n : ℕ) (t : List ℕ) (ok : check first n t ≡ Passed) (round leade
       above j lj lq e =
           let level : at vs j .round ≡ round + 3 = omega (arith, references-is _ _ e .one-up, r .round) in
           omega (arith, round-in n t ok (round + 3) j (record { within = omega arith; round = level }) .from-on)
+
+-- ---- who is chosen, as a cell
+
+cell-choice : (b : Bool) (p : ℕ) (d : Decision ℕ) → cell (cond b (committed p) d) ≡ cond b (2 + p) (cell d)
+cell-choice true p d = refl
+cell-choice false p d = refl
+
+module _ (n : ℕ) (t : List ℕ) (ok : check first n t ≡ Passed) (round : ℕ) (pos : 0 < round) where
+  lowest-in : (test : Vertex → Bool) → lowest (oneLeader n) (vertices first t) (round - 1) test ≡ firstIn (vertices first t) round (leader n round) test
+  unfolding qualifies inSlot firstIn
+  lowest-in test =
+      let vs = vertices first t in
+      let e : round - 1 + 1 ≡ round = omega arith in
+      lowest-first (accepted first n t ok) (oneLeader n) (round - 1) test
+      ∙ ap (λ (r : ℕ). firstTo (λ p. (eqb (at vs p .round) r and eqb (at vs p .author) (leader n r)) and test (at vs p)) (length vs)) e
+
+  -- committed with the first that passes, and else d
+  pub choose-cell : (test : Vertex → Bool) (d : Decision ℕ) (p : ℕ) → p ≡ firstIn (vertices first t) round (leader n round) test
+      → cell (choose (oneLeader n) (vertices first t) (round - 1) test d) ≡ cond (ltb p (records first t)) (2 + p) (cell d)
+  unfolding choose
+  choose-cell test d p e =
+      let same : lowest (oneLeader n) (vertices first t) (round - 1) test ≡ p = lowest-in test ∙ sym e in
+      rw (same, vertices-length first t) (cell-choice (ltb p (records first t)) p d)
+
+  pub through-cell : (a p : ℕ) → p ≡ firstIn (vertices first t) round (leader n round) (certifiedIn n (vertices first t) (history references (vertices first t) a))
+      → cell (throughAnchor (document01 n) n (vertices first t) (round - 1) a) ≡ cond (ltb p (records first t)) (2 + p) 1
+  unfolding throughAnchor
+  through-cell a p e = choose-cell (certifiedIn n (vertices first t) (history references (vertices first t) a)) skipped p e

@@ -3,7 +3,7 @@
 use Prim.Native.Nat.{ℕ, _-_, _≤_, _<_}
 use mathlib.Core.Path.{_≡_}
 use lib.ListN.{getD}
-use Rattle.settlement.proofs.InCells.{stop-start, stop-more, stop-past, stop-here}
+use Rattle.settlement.proofs.InCells.{stop-start, stop-more, stop-none, stop-here}
 use native.Mathlib.Omega.{arith}
 use borrow.Author.Needs.{needs}
 use Rattle.settlement.proofs.decide.stop_at.Statement.{statement}
@@ -40,7 +40,7 @@ returns : tie.Need-returns Inv-loop μ-loop
 returns c =
     let l = c .before in
     let a = l .before .args in
-    stop-past (a .cells .now) (a .from) (a .top) (l .loop .t) (l .loop .inv .0) (l .loop .inv .1) (omega arith)
+    stop-none (a .cells .now) (a .from) (a .top) (λ u h h′. l .loop .inv .1 u h (omega arith))
 
 returns-2 : tie.Need-returns-2 Inv-loop μ-loop
 returns-2 c =

@@ -1,17 +1,16 @@
 -- The direct commit of a slot: its vertices are looked at from the lowest mark on, a window of them after the other.
 -- Assumes nothing.
 use Prim.Native.Nat.{ℕ, _+_, _-_, _≤_, _<_}
-use mathlib.Core.Path.{_≡_, refl, sym, ap, _∙_, subst}
+use mathlib.Core.Path.{_≡_, sym, subst}
 use mathlib.Core.Bool.{Bool, true, false}
 use mathlib.Core.List.{List}
 use native.Mathlib.Omega.{arith}
-use native.Mathlib.Nat.{le-refl}
 use lib.Dec.{ltb, eqb}
 use lib.ListN.{length}
 use borrow.Author.Tests.{eqb-true, eqb-false, ltb-true, ltb-false, eq-eqb}
 use Rattle.folds.specs.Folds.{_and_, firstTo}
 use Rattle.folds.proofs.Tests.{by-test, not-both, failed, and-left, and-right, and-true}
-use Rattle.folds.proofs.Laws.{First, first-is, first-by}
+use Rattle.folds.proofs.Laws.{first-is, first-by}
 use Rattle.rules.specs.declared.Vertex.{Vertex}
 use Rattle.rules.specs.declared.Checked.the-variants.{Passed}
 use Rattle.rules.specs.Record.{first, records, vertices, at}
@@ -19,7 +18,7 @@ use Rattle.rules.specs.Check.{check}
 use Rattle.rules.proofs.Records.{vertices-length}
 use Rattle.settlement.specs.Range.{startOf}
 use Rattle.settlement.specs.Cells.{firstIn}
-use Rattle.settlement.proofs.Ranges.{InSlot, in-slot, slot-in, start-bound}
+use Rattle.settlement.proofs.Ranges.{in-slot, slot-in}
 
 -- The positions from `from` up to b fail.
 abbrev pub FailTo : List Vertex → (Vertex → Bool) → (from b : ℕ) → Type 0

@@ -24,8 +24,7 @@ returns : tie.Need-returns
 returns c =
     let b = c .before .before .before .before .before in
     let s = b .before .before .before .before in
-    let a = s .args in
-    (
+    let a = s .args in (
       rw (c .before .before .quorum-of .ensures, c .authors-tagged .ensures) (skip-tagged (a .n) (a .table .now) (s .pre .0) (a .round) (a .leader) (a .marks .now) (b .tag-blank .last .1 .1 .1 .1 .0) (b .tag-blank .ensures)),
       b .tag-blank .ensures .retagged,
     )

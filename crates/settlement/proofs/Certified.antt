@@ -25,7 +25,7 @@ use Rattle.rules.specs.Check.{check}
 use Rattle.rules.specs.Support.{references, supports, certifies}
 use Rattle.rules.proofs.Names.{name-path, same-name, name-same}
 use Rattle.rules.proofs.Records.{find-name}
-use Rattle.rules.proofs.Accepted.{Accepted, accepted, mark-pos}
+use Rattle.rules.proofs.Accepted.{Accepted, accepted, mark-pos, find-at}
 use Rattle.rules.proofs.Support.{references-is, is-references}
 use Rattle.table.specs.Part.{named}
 use Rattle.table.specs.Search.{findBelow}
@@ -148,6 +148,11 @@ pub none-entry : (vs : List Vertex) (x : Name) (i : ℕ) → length vs ≤ find 
 unfolding vertexOf
 none-entry vs x i l = rw (List·getD-eq-default vs noVertex l)
 
+-- where the certified vertex stands, as what it means
+pub certified-first : (n : ℕ) (vs : List Vertex) (round leader w : ℕ) → First (λ p. (eqb (at vs p .round) round and eqb (at vs p .author) leader) and certifies n vs (at vs w) (at vs p)) (length vs) (certifiedAt n vs round leader w)
+unfolding certifiedAt
+certified-first n vs round leader w = first-is _ (length vs)
+
 module _ {n : ℕ} {vs : List Vertex} (A : Accepted n vs) where
   -- no name with mark 0 stands anywhere
   pub no-mark : (x : Name) → x .mark ≡ 0 → length vs ≤ find vs x
@@ -243,6 +248,11 @@ module _ {n : ℕ} {vs : List Vertex} (A : Accepted n vs) where
       rw (eq-eqb _ _ e, backs-count (v .refs) (b .round + 1) (b .author) (b .mark) d)
       (ap (leb (quorum n)) (count-same _ _ n (λ i l. back-supports v b i e d)))
 
+  -- and of a vertex of the slot
+  certifies-slot : (w round leader p : ℕ) → at vs w .round ≡ round + 2 → p < length vs → at vs p .round ≡ round → at vs p .author ≡ leader
+      → certifies n vs (at vs w) (at vs p) ≡ leb (quorum n) (countMark (marks (at vs w .refs) (round + 1) leader) (at vs p .mark))
+  certifies-slot w round leader p e l r a = certifies-marks (at vs w) (at vs p) (rw r e) (mark-pos A p l) ∙ rw (r, a)
+
   -- the vertex of the mark that a quorum backs is the vertex of the slot that is certified
   pub certified-is : (w round leader : ℕ) → at vs w .round ≡ round + 2 → find vs (named round leader (enoughOf (marks (at vs w .refs) (round + 1) leader) (quorum n))) ≡ certifiedAt n vs round leader w
   unfolding find certifiedAt
@@ -251,21 +261,31 @@ module _ {n : ℕ} {vs : List Vertex} (A : Accepted n vs) where
       m : ℕ
       m = enoughOf (marks (at vs w .refs) (round + 1) leader) (quorum n)
 
-      -- of a vertex of the slot
-      told : (p : ℕ) → p < length vs → at vs p .round ≡ round → at vs p .author ≡ leader → certifies n vs (at vs w) (at vs p) ≡ leb (quorum n) (countMark (marks (at vs w .refs) (round + 1) leader) (at vs p .mark))
-      told p l r a = certifies-marks (at vs w) (at vs p) (rw r e) (mark-pos A p l) ∙ rw (r, a)
-
       there : (p : ℕ) → p < length vs → nameOf (at vs p) ≡ named round leader m → (eqb (at vs p .round) round and eqb (at vs p .author) leader) and certifies n vs (at vs w) (at vs p) ≡ true
       there p l q =
           let r : at vs p .round ≡ round = ap (λ x. x .round) q in
           let a : at vs p .author ≡ leader = ap (λ x. x .author) q in
           let k : at vs p .mark ≡ m = ap (λ x. x .mark) q in
           let d : m ≢ 0 = λ z. mark-pos A p l (k ∙ z) in
-          and-true _ _ (and-true _ _ (eq-eqb _ _ r) (eq-eqb _ _ a)) (told p l r a ∙ rw k (le-leb _ _ (enough-is (marks (at vs w .refs) (round + 1) leader) (quorum n) d)))
+          and-true _ _ (and-true _ _ (eq-eqb _ _ r) (eq-eqb _ _ a)) (certifies-slot w round leader p e l r a ∙ rw k (le-leb _ _ (enough-is (marks (at vs w .refs) (round + 1) leader) (quorum n) d)))
 
       back : (p : ℕ) → p < length vs → (eqb (at vs p .round) round and eqb (at vs p .author) leader) and certifies n vs (at vs w) (at vs p) ≡ true → sameName (nameOf (at vs p)) (named round leader m) ≡ true
       back p l t =
           let r : at vs p .round ≡ round = eqb-true _ _ (and-left _ _ (and-left _ _ t)) in
           let a : at vs p .author ≡ leader = eqb-true _ _ (and-right _ _ (and-left _ _ t)) in
-          let h : quorum n ≤ countMark (marks (at vs w .refs) (round + 1) leader) (at vs p .mark) = leb-true _ _ (sym (told p l r a) ∙ and-right _ _ t) in
+          let h : quorum n ≤ countMark (marks (at vs w .refs) (round + 1) leader) (at vs p .mark) = leb-true _ _ (sym (certifies-slot w round leader p e l r a) ∙ and-right _ _ t) in
           name-same _ _ (name-path _ _ r a (sym (some-mark (at vs w .refs) (round + 1) leader (at vs p .mark) (mark-pos A p l) h)))
+
+  -- of a vertex of the slot, it is the one found exactly when it is certified
+  pub certified-test : (w round leader p : ℕ) → at vs w .round ≡ round + 2 → p < length vs → at vs p .round ≡ round → at vs p .author ≡ leader
+      → eqb (certifiedAt n vs round leader w) p ≡ certifies n vs (at vs w) (at vs p)
+  certified-test w round leader p e l r a = same-test _ _ (λ t. there (eqb-true _ _ t)) (λ t. eq-eqb _ _ (back t))
+    where
+      there : certifiedAt n vs round leader w ≡ p → certifies n vs (at vs w) (at vs p) ≡ true
+      there q = and-right _ _ (subst (λ j. (eqb (at vs j .round) round and eqb (at vs j .author) leader) and certifies n vs (at vs w) (at vs j) ≡ true) q (certified-first n vs round leader w .hit (omega arith)))
+
+      back : certifies n vs (at vs w) (at vs p) ≡ true → certifiedAt n vs round leader w ≡ p
+      back t =
+          let h : quorum n ≤ countMark (marks (at vs w .refs) (round + 1) leader) (at vs p .mark) = leb-true _ _ (sym (certifies-slot w round leader p e l r a) ∙ t) in
+          let m = some-mark (at vs w .refs) (round + 1) leader (at vs p .mark) (mark-pos A p l) h in
+          sym (certified-is w round leader e) ∙ ap (find vs) (name-path (named round leader (enoughOf (marks (at vs w .refs) (round + 1) leader) (quorum n))) (nameOf (at vs p)) (sym r) (sym a) m) ∙ find-at A p l

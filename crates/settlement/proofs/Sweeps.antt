@@ -1,32 +1,36 @@
 -- The history of an anchor as it is marked from the anchor downward: what a position owes to the positions above it, what one position more
 -- marks, and which records the entries of a vertex name.
 -- Assumes nothing.
-use Prim.Native.Nat.{ℕ, zero, suc, pred, _+_, _-_, _/_, _%_, _≤_, _<_, min}
+use Prim.Native.Nat.{ℕ, suc, pred, _+_, _-_, _*_, _/_, _%_, _≤_, _<_, min}
 use mathlib.Core.Path.{_≡_, refl, sym, ap, _∙_, subst}
 use mathlib.Core.Logic.{_⊎_, inl, inr, ⊎-elim, _≢_}
-use mathlib.Core.Bool.{Bool, true, false, not, cond}
+use mathlib.Core.Bool.{Bool, true, false, not}
 use mathlib.Core.List.{List}
 use native.Mathlib.Omega.{arith}
 use native.Mathlib.Nat.{le-refl, eq-or-lt-of-le}
-use native.Mathlib.Numerals.{add-one}
 use lib.Dec.{leb, ltb, eqb}
-use lib.ListN.{length, getD, set, List·getD-eq-default}
-use borrow.Author.Tests.{eqb-true, eqb-false, eq-eqb, ne-eqb, leb-true, le-leb, ltb-true, ltb-false, lt-ltb, le-ltb}
-use Rattle.folds.specs.Folds.{_and_, _or_, bit, anyTo, firstTo}
-use Rattle.folds.proofs.Tests.{by-test, not-both, failed, passed, and-left, and-right, and-true, or-cases, or-left, or-right, or-false, compare, not-true, is-not, is-not-true}
-use Rattle.folds.proofs.Laws.{any-witness, any-intro, any-false, First, first-by}
+use lib.ListN.{length, getD, set, take, drop, List·getD-eq-default}
+use lib.Seq.{getD-set-same, getD-set-other}
+use borrow.Author.Tests.{eqb-true, eqb-false, eq-eqb, leb-true, le-leb, ltb-true, ltb-false, lt-ltb}
+use Rattle.folds.specs.Folds.{_and_, _or_, bit}
+use Rattle.folds.proofs.Tests.{by-test, not-both, failed, and-left, and-right, and-true, or-cases, or-left, or-right, is-not, is-not-true}
+use Rattle.folds.proofs.Laws.{any-witness, any-intro, first-by}
 use Rattle.rules.specs.declared.Name.{Name}
 use Rattle.rules.specs.declared.Vertex.{Vertex}
-use Rattle.rules.specs.Record.{first, records, vertices, at, nameOf, entry, entryName, below, find}
+use Rattle.rules.specs.declared.Checked.the-variants.{Passed}
+use Rattle.rules.specs.Record.{first, decode, records, vertices, at, nameOf, entry, entryName, below, find}
+use Rattle.rules.specs.Check.{check}
 use Rattle.rules.specs.Support.{references}
 use Rattle.rules.specs.History.{Reaches, itself, onward, history}
 use Rattle.rules.proofs.Names.{name-same, Below, below-is, is-below, below-trans, below-irrefl}
-use Rattle.rules.proofs.Records.{vertices-length, find-name}
-use Rattle.rules.proofs.Accepted.{Accepted, find-at, vertexOf-at, position-unique, author-low, round-pos, entry-vertex, earlier, rising}
-use Rattle.rules.proofs.Support.{References, references-is, is-references, references-entry, references-earlier}
+use Rattle.rules.proofs.Records.{vertices-length, vertices-at, find-name}
+use Rattle.rules.proofs.Accepted.{Accepted, accepted, find-at, vertexOf-at, position-unique, author-low, round-pos, entry-vertex, earlier, rising}
+use Rattle.rules.proofs.Support.{references-is, is-references, references-entry, references-earlier}
 use Rattle.rules.proofs.History.{Follows, ReferencesIn, reached-at, history-length, history-is}
 use Rattle.table.specs.Search.{nameAt, placeOf, findBelow}
-use Rattle.table.proofs.Names.{name-at}
+use Rattle.table.specs.Part.{named}
+use Rattle.table.proofs.Names.{name-at, record-part}
+use Rattle.table.proofs.Earlier.{entry-named}
 use Rattle.table.proofs.Search.{Falls, halves-first, found-here}
 use Rattle.settlement.specs.Work.{historyAt, Retagged}
 use Rattle.settlement.specs.Sweep.{markedFrom, Swept}
@@ -56,8 +60,11 @@ module _ {n : ℕ} {vs : List Vertex} (A : Accepted n vs) where
     pub history-self : H a ≡ true
     history-self = history-is A a a l (le-refl a) .1 itself
 
+    pub history-size : length (history references vs a) ≡ suc a
+    history-size = history-length A (references-earlier A) follows a l
+
     pub history-past : (q : ℕ) → a < q → H q ≡ false
-    history-past q h = List·getD-eq-default (history references vs a) false (omega (arith, history-length A (references-earlier A) follows a l))
+    history-past q h = List·getD-eq-default (history references vs a) false (omega (arith, history-size))
 
     pub history-low : (q : ℕ) → H q ≡ true → q ≤ a
     history-low q e = by-test (ltb a q) (λ t. absurd (not-both e (history-past q (ltb-true a q t)))) (λ t. ltb-false a q t)
@@ -104,16 +111,22 @@ module _ {n : ℕ} {vs : List Vertex} (A : Accepted n vs) where
         let lj : j ≤ a = history-low j t in
         or-right _ _ (any-intro _ (length vs) j (omega arith) (and-true _ _ (le-leb p j h) (and-true _ _ t s)))
 
-    -- of the positions from p on, and the one before, it is the whole history
-    pub marked-history : (p q : ℕ) → q < length vs → p ≤ suc q → markedFrom vs a p q ≡ H q
-    marked-history p q lq h = both-ways _ _ (λ e. to (marked-is p q e)) from
+    -- with all from p on looked at it is the whole history of a position that nothing below p references
+    pub marked-far : (p q : ℕ) → q < length vs → ((j : ℕ) → j ≤ a → q < j → steps j q ≡ true → p ≤ j) → markedFrom vs a p q ≡ H q
+    marked-far p q lq h = both-ways _ _ (λ e. to (marked-is p q e)) from
       where
         to : (q ≡ a) ⊎ ((j : ℕ) × (p ≤ j) × (H j ≡ true) × (steps j q ≡ true)) → H q ≡ true
         to (inl e) = rw e history-self
         to (inr (j, lj, t, s)) = history-step j q lq t s
 
         from : H q ≡ true → markedFrom vs a p q ≡ true
-        from e = ⊎-elim (λ k. marked-self p q k) (λ k. let w = history-from q k e in marked-by p q (w .0) (omega (arith, w .1)) (w .3) (w .4)) (eq-or-lt-of-le (history-low q e))
+        from e =
+            ⊎-elim (λ k. marked-self p q k) (λ k. let w = history-from q k e in marked-by p q (w .0) (h (w .0) (w .2) (w .1) (w .4)) (w .3) (w .4))
+            (eq-or-lt-of-le (history-low q e))
+
+    -- so it is of those from p on, and of the one before
+    pub marked-history : (p q : ℕ) → q < length vs → p ≤ suc q → markedFrom vs a p q ≡ H q
+    marked-history p q lq h = marked-far p q lq (λ j _ l _. omega arith)
 
     -- nothing above the anchor is looked at: the anchor alone
     pub marked-start : (q : ℕ) → markedFrom vs a (suc a) q ≡ eqb q a
@@ -243,6 +256,26 @@ module _ {n : ℕ} (t : List ℕ) (A : Accepted n (vertices first t)) (x : Name)
         hit = λ l. is-not (over f (le-refl f) l);
       }))
 
+-- the vertex that the code decodes from a part of the table
+pub vertex-part : (t : List ℕ) (p : ℕ) → p < records first t → decode first (take (138 * p + 138 - 138 * p) (drop (138 * p) t)) ≡ at (vertices first t) p
+vertex-part t p l = rw (record-part t p) (sym (vertices-at first t p l))
+
+-- the search for what entry i of the vertex at p names
+module _ (n : ℕ) (t : List ℕ) (c : check first n t ≡ Passed) (p : ℕ) (l : p < records first t) where
+  pub within : p < length (vertices first t)
+  within = rw (vertices-length first t) l
+
+  pub entry-found : (v : Vertex) (i j : ℕ) → v ≡ at (vertices first t) p → entry v i ≢ 0 → j ≡ findBelow t (min p (records first t)) (named (v .round - 1) i (entry v i))
+      → (j ≡ find (vertices first t) (entryName (at (vertices first t) p) i)) × (j < p)
+  entry-found v i j e f k =
+      let A : Accepted n (vertices first t) = accepted first n t c in
+      let g : entry (at (vertices first t) p) i ≢ 0 = rw e at f in
+      let low : find (vertices first t) (entryName (at (vertices first t) p) i) < p = earlier A p i within g in
+      let same : named (v .round - 1) i (entry v i) ≡ entryName (at (vertices first t) p) i = entry-named v i ∙ ap (λ u. entryName u i) e in
+      let few : min p (records first t) ≡ p = omega arith in
+      let q : j ≡ find (vertices first t) (entryName (at (vertices first t) p) i) = k ∙ rw (same, few) (find-among t A _ p (omega arith) low) in
+      (q, rw q low)
+
 -- ---- the bytes that tell of the history
 
 bit-one : (b : Bool) → eqb (bit b) 1 ≡ b
@@ -263,6 +296,61 @@ byte-bit x h = by-test (eqb (x / 128) 1) (λ e. rw e (eqb-true (x / 128) 1 e)) (
   where
     zero-is : x / 128 ≢ 1 → x / 128 ≡ 0
     zero-is f = omega arith
+
+-- one byte more that tells of none
+pub forget-next : (m : List ℕ) (q b : ℕ) → q < length m → b ≡ getD m q 0 % 128 → ((i : ℕ) → i < q → historyAt m i ≡ 0) → (i : ℕ) → i < q + 1 → historyAt (set m q b) i ≡ 0
+forget-next m q b l e h i k = by-test (ltb i q) (λ t. rw (getD-set-other m q i b 0 (λ z. omega (arith, ltb-true i q t))) (h i (ltb-true i q t))) here
+  where
+    here : ltb i q ≡ false → historyAt (set m q b) i ≡ 0
+    here t = let z : i ≡ q = omega (arith, ltb-false i q t) in rw (z, getD-set-same m q b 0 l, e) (omega arith)
+
+-- one byte alone that tells of it
+pub start-alone : (m : List ℕ) (k a b : ℕ) → a < length m → b ≡ 128 + getD m a 0 % 128 → ((i : ℕ) → i < k → historyAt m i ≡ 0)
+    → (i : ℕ) → i < k → historyAt (set m a b) i ≡ bit (eqb i a)
+start-alone m k a b l e h i li = by-test (eqb i a) here (λ t. rw (getD-set-other m a i b 0 (eqb-false i a t), t) (h i li))
+  where
+    here : eqb i a ≡ true → historyAt (set m a b) i ≡ bit (eqb i a)
+    here t =
+        let told : getD (set m a b) i 0 ≡ b = rw (eqb-true i a t) (getD-set-same m a b 0 l) in
+        rw t (omega (arith, told))
+
+-- What the first i entries of the vertex at p name is marked, beside what was.
+abbrev pub MarkedTo : List Vertex → (p i : ℕ) → List ℕ → List ℕ → Type 0
+MarkedTo vs p i old m = (q : ℕ) → q < length vs → historyAt m q ≡ bit (eqb (historyAt old q) 1 or namedTo vs p i q)
+
+or-none : (b : Bool) → b or false ≡ b
+unfolding _or_
+or-none true = refl
+or-none false = refl
+
+pub marked-none : (vs : List Vertex) (p : ℕ) (m : List ℕ) → ((q : ℕ) → getD m q 0 < 256) → MarkedTo vs p 0 m m
+marked-none vs p m h q l = byte-bit (getD m q 0) (h q) ∙ ap bit (sym (or-none _) ∙ ap (λ b. eqb (historyAt m q) 1 or b) (sym (named-none vs p q)))
+
+module _ {n : ℕ} {vs : List Vertex} (A : Accepted n vs) (p : ℕ) (l : p < length vs) (old m : List ℕ) where
+  pub marked-all : (i : ℕ) → n ≤ i → MarkedTo vs p i old m → (q : ℕ) → q < length vs → historyAt m q ≡ bit (eqb (historyAt old q) 1 or references (at vs p) (nameOf (at vs q)))
+  marked-all i h M q lq = M q lq ∙ ap (λ b. bit (eqb (historyAt old q) 1 or b)) (named-all A p l i q h lq)
+
+  -- entry i is 0
+  pub marked-skip : (i : ℕ) → entry (at vs p) i ≡ 0 → MarkedTo vs p i old m → MarkedTo vs p (i + 1) old m
+  marked-skip i z M q lq = M q lq ∙ ap (λ b. bit (eqb (historyAt old q) 1 or b)) (sym (named-same A p l i q z))
+
+  -- entry i names the vertex at j, which is marked
+  pub marked-one : (i j b : ℕ) → entry (at vs p) i ≢ 0 → j ≡ find vs (entryName (at vs p) i) → j < length m → b ≡ 128 + getD m j 0 % 128 → MarkedTo vs p i old m
+      → MarkedTo vs p (i + 1) old (set m j b)
+  marked-one i j b f e lj eb M q lq = by-test (eqb q j) here other
+    where
+      next : namedTo vs p (i + 1) q ≡ namedTo vs p i q or eqb q j
+      next = named-next A p l i f q lq ∙ ap (λ x. namedTo vs p i q or eqb q x) (sym e)
+
+      here : eqb q j ≡ true → historyAt (set m j b) q ≡ bit (eqb (historyAt old q) 1 or namedTo vs p (i + 1) q)
+      here t =
+          let z : q ≡ j = eqb-true q j t in
+          let yes : eqb (historyAt old q) 1 or namedTo vs p (i + 1) q ≡ true = or-right _ _ (next ∙ or-right _ _ t) in
+          let told : getD (set m j b) q 0 ≡ b = rw z (getD-set-same m j b 0 lj) in
+          rw yes (omega (arith, told))
+
+      other : eqb q j ≡ false → historyAt (set m j b) q ≡ bit (eqb (historyAt old q) 1 or namedTo vs p (i + 1) q)
+      other t = rw (getD-set-other m j q b 0 (eqb-false q j t), next, t, or-none (namedTo vs p i q)) (M q lq)
 
 module _ {n : ℕ} {vs : List Vertex} (A : Accepted n vs) (a : ℕ) where
   pub swept-start : (m : List ℕ) → a < length vs → ((q : ℕ) → q < length vs → historyAt m q ≡ bit (eqb q a)) → Swept vs a (suc a) m

@@ -111,7 +111,23 @@ fn sweep(n: u8, table: &[u8], a: usize, from: usize, to: usize, marks: &mut [u8]
     }
 }
 
-// The history of the anchor at a, as far down as `to`. The walk in hand goes on if it is of the same anchor.
+// How far the history of the anchor at a is marked. The walk in hand goes on if it is of the same anchor.
+fn take_up(n: u8, table: &[u8], a: usize, walk: Walk, marks: &mut [u8]) -> usize
+    requires { ⌜ check first n (now table) ≡ Passed ⌝ }
+    requires { ⌜ a < records first (now table) ⌝ }
+    requires { ⌜ records first (now table) ≤ length (now marks) ⌝ }
+    requires { ⌜ Walked (vertices first (now table)) (walk .anchor) (walk .done) (now marks) ⌝ }
+    ensures { λ r. ⌜ length (now (marks .exit)) ≡ length (now (marks .entry)) ⌝ }
+    ensures { λ r. ⌜ Swept (vertices first (now (table .entry))) a r (now (marks .exit)) ⌝ }
+{
+    if walk.anchor == a {
+        return walk.done;
+    }
+    start(n, table, a, marks);
+    a + 1
+}
+
+// The history of the anchor at a, as far down as `to`.
 pub(crate) fn walk_to(
     n: u8,
     table: &[u8],
@@ -130,11 +146,7 @@ pub(crate) fn walk_to(
     ensures { λ r. ⌜ r .done ≤ to ⌝ }
     ensures { λ r. ⌜ Swept (vertices first (now (table .entry))) a (r .done) (now (marks .exit)) ⌝ }
 {
-    let mut from = walk.done;
-    if walk.anchor != a {
-        start(n, table, a, marks);
-        from = a + 1;
-    }
+    let from = take_up(n, table, a, walk, marks);
     if from <= to {
         return Walk {
             anchor: a,

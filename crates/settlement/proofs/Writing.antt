@@ -8,13 +8,13 @@ use mathlib.Core.List.{List, [], _∷_, _++_, append-assoc}
 use native.Mathlib.Omega.{arith}
 use native.Mathlib.Nat.{le-refl, le-step, le-of-suc-le-suc, eq-or-lt-of-le}
 use native.Mathlib.Numerals.{add-one}
-use lib.Dec.{eqb}
+use lib.Dec.{ltb, eqb}
 use lib.ListN.{length, getD, set, take, drop, length-set, length-append, length-take, length-drop, List·getD-append, take-append-drop}
 use lib.Seq.{getD-at, getD-set-same, getD-set-other, set-getD, ext-getD, drop-at, set-append-left, drop-set-lt, drop-cons, append-snoc}
-use borrow.Author.Tests.{eqb-true, eqb-false, eq-eqb, ne-eqb}
+use borrow.Author.Tests.{eqb-true, eqb-false, eq-eqb, ne-eqb, ltb-true, ltb-false}
 use Rattle.folds.specs.Folds.{_and_, _or_, bit, countTo, filterTo, tabulate, member}
-use Rattle.folds.proofs.Tests.{by-test, not-both, passed, failed, compare, or-right}
-use Rattle.folds.proofs.Laws.{count-yes, count-no}
+use Rattle.folds.proofs.Tests.{by-test, not-both, passed, failed, compare, and-left, and-right, or-right, not-true}
+use Rattle.folds.proofs.Laws.{count-yes, count-no, count-and, count-witness}
 use Rattle.folds.proofs.Lists.{filter-yes, filter-no, filter-length, length-tabulate, getD-tabulate, tabulate-same, tabulate-next, put-next}
 use Rattle.rules.specs.declared.Vertex.{Vertex}
 use Rattle.rules.specs.Record.{first, decode, records, vertices, at, nameOf, entry, entryName, find}
@@ -26,8 +26,8 @@ use Rattle.table.specs.Search.{findBelow}
 use Rattle.table.specs.Part.{named}
 use Rattle.table.proofs.Earlier.{entry-named}
 use Rattle.settlement.specs.Sweep.{markedFrom}
-use Rattle.settlement.specs.Write.{bytesOver, placesOver, written, due, moreAt, byteOf, dueFrom, Told, MarkedOne, MarkedMore, MarkedDown}
-use Rattle.settlement.proofs.Sweeps.{marked-self, marked-history, marked-start, marked-next, marked-same, namedTo, named-none, named-all, named-same, named-next, find-among}
+use Rattle.settlement.specs.Write.{bytesOver, placesOver, written, due, moreAt, byteOf, dueFrom, Told, MarkedOne, MarkedMore, MarkedDown, fresh, Led}
+use Rattle.settlement.proofs.Sweeps.{history-past, marked-history, marked-start, marked-next, marked-same, namedTo, named-none, named-all, named-same, named-next, find-among}
 
 -- nothing more
 pub or-last : (b : Bool) → b ≡ b or false
@@ -454,3 +454,75 @@ module _ (m o : List ℕ) (count p c : ℕ) (m′ o′ : List ℕ) (P : Put m o 
   -- there is room for it
   pub put-room : (a : ℕ) → p ≤ a → a < length m → count + countTo (due m) (a + 1) ≤ length o → getD m′ p 0 ≡ 2 → c < length o
   put-room a h l r e = omega (arith, P .counted, count-room (due m) p (a + 1) (omega arith) (eq-eqb _ _ (sym (put-byte (omega arith)) ∙ e)))
+
+-- ---- one leader vertex more
+
+filter-same : (t u : ℕ → Bool) (k : ℕ) → ((i : ℕ) → i < k → t i ≡ u i) → filterTo t k ≡ filterTo u k
+unfolding filterTo
+filter-same t u zero h = refl
+filter-same t u (suc k) h = rw (filter-same t u k (λ i l. h i (le-step l)), h k (le-refl (suc k)))
+
+-- two tests that no number passes both
+count-apart : (t u : ℕ → Bool) (k : ℕ) → ((i : ℕ) → i < k → t i ≡ true → u i ≡ true → ⊥) → countTo t k + countTo u k ≤ k
+count-apart t u k h = omega (arith, count-and t u k, none)
+  where
+    none : countTo (λ i. t i and u i) k ≤ 0
+    none = by-test (ltb 0 (countTo (λ i. t i and u i) k))
+        (λ e. let w = count-witness (λ i. t i and u i) k (ltb-true _ _ e) in absurd (h (w .0) (w .1) (and-left _ _ (w .2)) (and-right _ _ (w .2))))
+        (λ e. ltb-false _ _ e)
+
+-- bytes of which some more are such already
+over-longer : (f : ℕ → ℕ) (k j : ℕ) (old : List ℕ) → k + j ≤ length old → ((q : ℕ) → k ≤ q → q < k + j → f q ≡ getD old q 0) → bytesOver f k old ≡ bytesOver f (k + j) old
+over-longer f k zero old l h = let e : k + 0 ≡ k = omega arith in rw e
+over-longer f k (suc j) old l h =
+    let e : k + suc j ≡ k + j + 1 = omega arith in
+    rw e (over-longer f k j old (omega arith) (λ q a b. h q a (omega arith)) ∙ over-keep f (k + j) old (omega arith) (h (k + j) (omega arith) (omega arith)))
+
+due-bit : (w h : Bool) → eqb (byteOf w h) 2 ≡ h and not w
+unfolding _and_
+due-bit true true = refl
+due-bit true false = refl
+due-bit false true = refl
+due-bit false false = refl
+
+done-bit : (w h : Bool) → cond (eqb (byteOf w h) 2) 1 (byteOf w h) ≡ bit (w or h)
+unfolding _or_
+done-bit true h = refl
+done-bit false true = refl
+done-bit false false = refl
+
+module _ {n : ℕ} {vs : List Vertex} (A : Accepted n vs) (a : ℕ) (l : a < length vs) (m : List ℕ) (room : length vs ≤ length m) (low : ℕ) (m₁ : List ℕ) (D : MarkedDown vs a m low m₁) where
+  abbrev belongs : ℕ → Bool
+  belongs q = getD (history references vs a) q false
+
+  marked-byte : (q : ℕ) → q < length vs → getD m₁ q 0 ≡ byteOf (written m q) (belongs q)
+  marked-byte q lq = ap (λ b. getD b q 0) (D .bytes) ∙ over-at (dueFrom vs a 0 m) (length vs) m q lq ∙ ap (byteOf (written m q)) (marked-history A a l 0 q lq (omega arith))
+
+  due-is-fresh : (q : ℕ) → q < length vs → due m₁ q ≡ belongs q and not (written m q)
+  due-is-fresh q lq = ap (λ x. eqb x 2) (marked-byte q lq) ∙ due-bit (written m q) (belongs q)
+
+  due-list : filterTo (due m₁) (a + 1) ≡ fresh vs a m
+  due-list = rw (add-one a) (filter-same _ _ (suc a) (λ q h. due-is-fresh q (omega arith)))
+
+  pub marked-length : length m₁ ≡ length m
+  marked-length = ap length (D .bytes) ∙ over-length _ (length vs) m room
+
+  -- there is room for what is due
+  pub led-room : (count : ℕ) → count ≡ countTo (written m) (length vs) → count + countTo (due m₁) (a + 1) ≤ length vs
+  led-room count e =
+      omega (arith, count-up (due m₁) (a + 1) (length vs) (omega arith), count-apart (written m) (due m₁) (length vs) (λ q lq w d. not-both w (not-true _ (and-right _ _ (sym (due-is-fresh q lq) ∙ d)))))
+
+  pub led : (count r : ℕ) (o o′ m₂ : List ℕ) → o′ ≡ placesOver count (filterTo (due m₁) (a + 1)) o → m₂ ≡ bytesOver (doneAt m₁) (a + 1) m₁ → r ≡ count + countTo (due m₁) (a + 1) → Led vs a count o m r o′ m₂
+  led count r o o′ m₂ p b e = record {
+    places = p ∙ ap (λ w. placesOver count w o) due-list;
+    bytes = b ∙ whole ∙ ap (bytesOver (doneAt m₁) (length vs)) (D .bytes) ∙ over-over _ (length vs) m _ ∙ over-same _ (length vs) m _ (λ q lq. ap (λ x. cond (eqb x 2) 1 x) (marked-byte q lq) ∙ done-bit (written m q) (belongs q));
+    counted = e ∙ ap (λ k. count + k) (sym (filter-length (due m₁) (a + 1)) ∙ ap length due-list);
+  }
+    where
+      past : (q : ℕ) → a + 1 ≤ q → q < length vs → doneAt m₁ q ≡ getD m₁ q 0
+      past q h lq = let none : due m₁ q ≡ false = failed _ (λ t. not-both (and-left _ _ (sym (due-is-fresh q lq) ∙ t)) (history-past A a l q (omega arith))) in rw none
+
+      whole : bytesOver (doneAt m₁) (a + 1) m₁ ≡ bytesOver (doneAt m₁) (length vs) m₁
+      whole =
+          let w : a + 1 + (length vs - (a + 1)) ≡ length vs = omega arith in
+          over-longer (doneAt m₁) (a + 1) (length vs - (a + 1)) m₁ (rw (w, marked-length) room) (λ q h k. past q h (omega arith)) ∙ ap (λ k. bytesOver (doneAt m₁) k m₁) w

@@ -6,3 +6,4 @@ pub mod Sweeps
 pub mod InCells
 pub mod Writing
 pub mod Counting
+pub mod Ordered

@@ -10,14 +10,14 @@ use native.Mathlib.Nat.{le-refl, le-step, le-of-suc-le-suc, eq-or-lt-of-le}
 use native.Mathlib.Numerals.{add-one}
 use lib.Dec.{ltb, eqb}
 use lib.ListN.{length, getD, set, take, drop, length-set, length-append, length-take, length-drop, List·getD-append, take-append-drop}
-use lib.Seq.{getD-at, getD-set-same, getD-set-other, set-getD, ext-getD, drop-at, set-append-left, drop-set-lt, drop-cons, append-snoc}
+use lib.Seq.{take-at, drop-append-add, drop-drop, getD-at, getD-set-same, getD-set-other, set-getD, ext-getD, drop-at, set-append-left, drop-set-lt, drop-cons, append-snoc}
 use borrow.Author.Tests.{eqb-true, eqb-false, eq-eqb, ne-eqb, ltb-true, ltb-false}
-use Rattle.folds.specs.Folds.{_and_, _or_, bit, countTo, filterTo, tabulate, member}
+use Rattle.folds.specs.Folds.{_and_, _or_, bit, countTo, filterTo, tabulate}
 use Rattle.folds.proofs.Tests.{by-test, not-both, passed, failed, compare, and-left, and-right, or-right, not-true}
 use Rattle.folds.proofs.Laws.{count-yes, count-no, count-and, count-witness}
 use Rattle.folds.proofs.Lists.{filter-yes, filter-no, filter-length, length-tabulate, getD-tabulate, tabulate-same, tabulate-next, put-next}
 use Rattle.rules.specs.declared.Vertex.{Vertex}
-use Rattle.rules.specs.Record.{first, decode, records, vertices, at, nameOf, entry, entryName, find}
+use Rattle.rules.specs.Record.{first, records, vertices, at, nameOf, entry, entryName, find}
 use Rattle.rules.specs.Support.{references}
 use Rattle.rules.specs.History.{history}
 use Rattle.rules.proofs.Records.{vertices-length}
@@ -111,6 +111,15 @@ module _ (count : ℕ) (new old : List ℕ) (w : count ≤ length old) where
 pub places-none : (count : ℕ) (old : List ℕ) → old ≡ placesOver count [] old
 unfolding placesOver
 places-none count old = let e : count + 0 ≡ count = omega arith in rw e (sym (take-append-drop count old))
+
+-- places written from the end of those written before
+pub places-over : (w f old : List ℕ) → placesOver (length w) f (w ++ drop (length w) old) ≡ (w ++ f) ++ drop (length (w ++ f)) old
+unfolding placesOver
+places-over w f old =
+    ap (λ x. x ++ (f ++ drop (length w + length f) (w ++ drop (length w) old))) (take-at w (drop (length w) old) (length w) refl)
+    ∙ ap (λ x. w ++ (f ++ x)) (drop-append-add w (drop (length w) old) (length f) ∙ drop-drop (length f) (length w) old)
+    ∙ sym (append-assoc w f _)
+    ∙ ap (λ k. (w ++ f) ++ drop k old) (sym (length-append w f))
 
 -- ---- what one position marks
 
@@ -457,7 +466,7 @@ module _ (m o : List ℕ) (count p c : ℕ) (m′ o′ : List ℕ) (P : Put m o 
 
 -- ---- one leader vertex more
 
-filter-same : (t u : ℕ → Bool) (k : ℕ) → ((i : ℕ) → i < k → t i ≡ u i) → filterTo t k ≡ filterTo u k
+pub filter-same : (t u : ℕ → Bool) (k : ℕ) → ((i : ℕ) → i < k → t i ≡ u i) → filterTo t k ≡ filterTo u k
 unfolding filterTo
 filter-same t u zero h = refl
 filter-same t u (suc k) h = rw (filter-same t u k (λ i l. h i (le-step l)), h k (le-refl (suc k)))

@@ -36,7 +36,7 @@ use Rattle.settlement.specs.Range.{startOf}
 use Rattle.settlement.specs.Certify.{certifiedAt}
 use Rattle.settlement.specs.Work.{historyAt, Retagged}
 use Rattle.settlement.specs.Sweep.{Swept}
-use Rattle.settlement.specs.Cells.{firstIn, stopAt, CellsFrom, Walked}
+use Rattle.settlement.specs.Cells.{firstIn, stopAt, Walked}
 use Rattle.settlement.proofs.Ranges.{InRound, Under, start-bound, start-under, in-round, round-in, round-limit}
 use Rattle.settlement.proofs.Certified.{same-test, first-same}
 use Rattle.settlement.proofs.Sweeps.{history-size, history-low, marked-far, swept-retagged}
@@ -387,6 +387,12 @@ unfolding indirect
 indirect-through n vs s a d e = rw e
 
 -- ---- all cells, from the highest round down
+
+-- The cells from s on hold the decisions of their slots; those past the highest round are as before.
+pub record CellsFrom (n : ℕ) (vs : List Vertex) (s : ℕ) (old new : List ℕ) : Type 0 where
+  pub same-length : length new ≡ length old
+  pub decided : (u : ℕ) → s ≤ u → u < highest vs → getD new u 0 ≡ cell (decisionAt (decisions (document01 n) n vs) u)
+  pub kept : (u : ℕ) → highest vs ≤ u → getD new u 0 ≡ getD old u 0
 
 module _ (n : ℕ) (vs : List Vertex) (old : List ℕ) where
   abbrev all : List (Decision ℕ)

@@ -1,7 +1,7 @@
 // The decision of every round, from the highest down, in the cells.
 ghost use mathlib.Core.Path.{_≡_};
 ghost use mathlib.Core.Bool.{cond};
-ghost use mathlib.Core.List.{map, _++_};
+ghost use mathlib.Core.List.{map};
 ghost use Prim.Native.Nat.{ℕ, _+_, _-_, _<_, _≤_};
 ghost use lib.Dec.{ltb};
 ghost use lib.ListN.{length, getD, drop};
@@ -13,7 +13,7 @@ ghost use Rattle.rules.specs.Decision.{cell};
 ghost use Rattle.rules.specs.Decide.{document01, highest, anchor, indirect, decisions, decisionAt, throughAnchor};
 ghost use Rattle.rules.specs.Settlement.{writtenOver};
 ghost use Rattle.settlement.specs.Range.{startOf};
-ghost use Rattle.settlement.specs.Cells.{stopAt, CellsFrom, Walked};
+ghost use Rattle.settlement.specs.Cells.{stopAt, Walked};
 use crate::direct::direct_commit;
 use crate::direct::direct_skip;
 use crate::history::Walk;

@@ -7,8 +7,8 @@ use lib.ListN.{length}
 use Rattle.rules.specs.Record.{first, records, vertices}
 use Rattle.rules.specs.Decide.{highest}
 use Rattle.rules.proofs.Records.{vertices-length}
-use Rattle.settlement.specs.Cells.{CellsFrom, Walked}
-use Rattle.settlement.proofs.InCells.{highest-limit, cells-start, cells-next, cells-end}
+use Rattle.settlement.specs.Cells.{Walked}
+use Rattle.settlement.proofs.InCells.{highest-limit, CellsFrom, cells-start, cells-next, cells-end}
 use native.Mathlib.Omega.{arith}
 use borrow.Author.Needs.{needs}
 use Rattle.settlement.proofs.decide.decide_all.Statement.{statement}

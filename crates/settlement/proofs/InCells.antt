@@ -1,23 +1,23 @@
 -- The decisions as they stand in cells: the highest round, where the indirect search stops, who is chosen, and what a round's cell holds.
 -- Assumes nothing.
-use Prim.Native.Nat.{ℕ, zero, suc, pred, _+_, _-_, _*_, _/_, _≤_, _<_, min}
+use Prim.Native.Nat.{ℕ, suc, pred, _+_, _-_, _*_, _≤_, _<_, min}
 use mathlib.Core.Path.{_≡_, refl, sym, ap, _∙_, subst}
-use mathlib.Core.Logic.{_⊎_, inl, inr, ⊎-elim, _≢_}
+use mathlib.Core.Logic.{_⊎_, ⊎-elim, _≢_}
 use mathlib.Core.Bool.{Bool, true, false, not, cond}
 use mathlib.Core.List.{List, map}
 use native.Mathlib.Omega.{arith}
-use native.Mathlib.Nat.{le-refl, eq-or-lt-of-le, mod-lt}
+use native.Mathlib.Nat.{le-refl, mod-lt}
 use native.Mathlib.Numerals.{add-one}
 use lib.Dec.{leb, ltb, eqb}
 use lib.ListN.{length, getD, set, take, drop, length-set, length-append, length-drop, length-map, List·getD-append, List·getD-map, List·getD-eq-default}
 use lib.Seq.{drop-drop, getD-drop, getD-set-same, getD-set-other, getD-append-add, ext-getD}
-use borrow.Author.Tests.{eqb-true, eqb-false, eq-eqb, ne-eqb, leb-true, leb-false, le-leb, ltb-true, ltb-false, lt-ltb, le-ltb}
+use borrow.Author.Tests.{eqb-true, eqb-false, ne-eqb, leb-true, leb-false, le-leb, ltb-true, ltb-false, lt-ltb, le-ltb}
 use Rattle.folds.specs.Folds.{_and_, _or_, bit, anyTo, firstTo}
-use Rattle.folds.proofs.Tests.{by-test, not-both, failed, passed, and-left, and-right, and-true, or-cases, or-left, or-right, or-false, not-true, is-not}
+use Rattle.folds.proofs.Tests.{by-test, not-both, failed, and-left, and-right, and-true, or-cases, or-left, or-right, or-false, not-true, is-not}
 use Rattle.folds.proofs.Laws.{First, first-is, first-by, any-witness, any-intro}
 use Rattle.rules.specs.declared.Vertex.{Vertex}
 use Rattle.rules.specs.declared.Checked.the-variants.{Passed}
-use Rattle.rules.specs.Record.{number, first, recordAt, decode, records, vertices, noVertex, at, nameOf}
+use Rattle.rules.specs.Record.{number, first, decode, records, vertices, noVertex, at, nameOf}
 use Rattle.rules.specs.Check.{check}
 use Rattle.rules.specs.Support.{references, certifies, directCommit, directSkip}
 use Rattle.rules.specs.History.{history}
@@ -34,12 +34,12 @@ use Rattle.rules.proofs.Highest.{one-later}
 use Rattle.table.proofs.Names.{record-part}
 use Rattle.settlement.specs.Range.{startOf}
 use Rattle.settlement.specs.Certify.{certifiedAt}
-use Rattle.settlement.specs.Work.{historyAt}
+use Rattle.settlement.specs.Work.{historyAt, Retagged}
 use Rattle.settlement.specs.Sweep.{Swept}
-use Rattle.settlement.specs.Cells.{firstIn, stopAt, CellsFrom}
+use Rattle.settlement.specs.Cells.{firstIn, stopAt, Walked}
 use Rattle.settlement.proofs.Ranges.{InRound, Under, start-bound, start-under, in-round, round-in, round-limit}
 use Rattle.settlement.proofs.Certified.{same-test, first-same}
-use Rattle.settlement.proofs.Sweeps.{history-size, history-low, marked-far}
+use Rattle.settlement.proofs.Sweeps.{history-size, history-low, marked-far, swept-retagged}
 
 -- ---- the highest round
 
@@ -238,6 +238,10 @@ module _ (n : ℕ) (t : List ℕ) (ok : check first n t ≡ Passed) (round : ℕ
   unfolding throughAnchor
   through-cell a p e = choose-cell (certifiedIn n (vertices first t) (history references (vertices first t) a)) skipped p e
 
+-- other tags are the same walk
+pub walked-retagged : (n : ℕ) (t : List ℕ) → check first n t ≡ Passed → (a p : ℕ) (m m′ : List ℕ) → Retagged m m′ → Walked (vertices first t) a p m → Walked (vertices first t) a p m′
+walked-retagged n t ok a p m m′ r w l = swept-retagged (accepted first n t ok) a p m m′ r (w l)
+
 -- ---- the limits of rounds and leaders
 
 pub leader-low : (n r : ℕ) → 0 < n → leader n r < n
@@ -368,16 +372,27 @@ module _ (n : ℕ) (t : List ℕ) (ok : check first n t ≡ Passed) (round : ℕ
         unfolding other
         skip-cell e = by-choice ∙ rw (le-ltb p (records first t) h, e)
 
-        module _ (e : directSkip n (vertices first t) round (leader n round) ≡ false) where
-          pub open-cell : anchor (drop (round + 2) ds) ≡ undecided → cell (decisionAt ds s) ≡ 0
-          unfolding other indirect
-          open-cell q = by-choice ∙ rw (le-ltb p (records first t) h, e, q)
+        pub indirect-cell : directSkip n (vertices first t) round (leader n round) ≡ false
+            → cell (decisionAt ds s) ≡ cell (indirect (document01 n) n (vertices first t) s (anchor (drop (round + 2) ds)))
+        unfolding other
+        indirect-cell e = by-choice ∙ rw (le-ltb p (records first t) h, e)
 
-          pub anchor-cell : (a : ℕ) → anchor (drop (round + 2) ds) ≡ committed a → cell (decisionAt ds s) ≡ cell (throughAnchor (document01 n) n (vertices first t) s a)
-          unfolding other indirect
-          anchor-cell a q = by-choice ∙ rw (le-ltb p (records first t) h, e, q)
+pub indirect-open : (n : ℕ) (vs : List Vertex) (s : ℕ) (d : Decision ℕ) → d ≡ undecided → 0 ≡ cell (indirect (document01 n) n vs s d)
+unfolding indirect
+indirect-open n vs s d e = rw e
+
+pub indirect-through : (n : ℕ) (vs : List Vertex) (s a : ℕ) (d : Decision ℕ) → d ≡ committed a
+    → cell (throughAnchor (document01 n) n vs s a) ≡ cell (indirect (document01 n) n vs s d)
+unfolding indirect
+indirect-through n vs s a d e = rw e
 
 -- ---- all cells, from the highest round down
+
+-- The cells from s on hold the decisions of their slots; those past the highest round are as before.
+pub record CellsFrom (n : ℕ) (vs : List Vertex) (s : ℕ) (old new : List ℕ) : Type 0 where
+  pub same-length : length new ≡ length old
+  pub decided : (u : ℕ) → s ≤ u → u < highest vs → getD new u 0 ≡ cell (decisionAt (decisions (document01 n) n vs) u)
+  pub kept : (u : ℕ) → highest vs ≤ u → getD new u 0 ≡ getD old u 0
 
 module _ (n : ℕ) (vs : List Vertex) (old : List ℕ) where
   abbrev all : List (Decision ℕ)

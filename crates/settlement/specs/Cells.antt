@@ -1,18 +1,13 @@
 -- Decisions as they stand in cells, from the highest slot down.
 -- Assumes nothing.
-use Prim.Native.Nat.{ℕ, zero, suc, _+_, _-_, _<_, _≤_}
-use mathlib.Core.Path.{_≡_}
-use mathlib.Core.Bool.{Bool, not, cond}
-use mathlib.Core.List.{List, _++_, map}
-use lib.Dec.{leb, ltb, eqb}
-use lib.ListN.{length, getD, take, drop}
-use Rattle.folds.specs.Folds.{_and_, _or_, firstTo}
+use Prim.Native.Nat.{ℕ, _<_}
+use mathlib.Core.Bool.{Bool, not}
+use mathlib.Core.List.{List}
+use lib.Dec.{leb, eqb}
+use lib.ListN.{length, getD}
+use Rattle.folds.specs.Folds.{_and_, firstTo}
 use Rattle.rules.specs.declared.Vertex.{Vertex}
 use Rattle.rules.specs.Record.{at}
-use Rattle.rules.specs.Decision.{Decision, cell}
-use Rattle.rules.specs.Support.{references, directCommit}
-use Rattle.rules.specs.History.{history}
-use Rattle.rules.specs.Decide.{document01, highest, decisions, decisionAt}
 use Rattle.settlement.specs.Sweep.{Swept}
 
 -- Where the first vertex of that round and leader stands that passes the test, or the number of records.
@@ -22,12 +17,6 @@ firstIn vs round leader ok = firstTo (λ p. (eqb (at vs p .round) round and eqb 
 -- The first cell from `from` on and below `top` that is not 1; `top` if there is none.
 unfoldable pub stopAt : List ℕ → (from top : ℕ) → ℕ
 stopAt cells from top = firstTo (λ t. leb from t and not (eqb (getD cells t 0) 1)) top
-
--- The cells from s on hold the decisions of their slots; those past the highest round are as before.
-pub record CellsFrom (n : ℕ) (vs : List Vertex) (s : ℕ) (old new : List ℕ) : Type 0 where
-  pub same-length : length new ≡ length old
-  pub decided : (u : ℕ) → s ≤ u → u < highest vs → getD new u 0 ≡ cell (decisionAt (decisions (document01 n) n vs) u)
-  pub kept : (u : ℕ) → highest vs ≤ u → getD new u 0 ≡ getD old u 0
 
 -- The bytes hold the history of the anchor at a, looked at from p on; if a is no position, of nothing.
 abbrev pub Walked : List Vertex → (a p : ℕ) → List ℕ → Type 0

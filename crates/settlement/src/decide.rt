@@ -1,7 +1,7 @@
 // The decision of every round, from the highest down, in the cells.
 ghost use mathlib.Core.Path.{_≡_};
 ghost use mathlib.Core.Bool.{cond};
-ghost use mathlib.Core.List.{map, _++_};
+ghost use mathlib.Core.List.{map};
 ghost use Prim.Native.Nat.{ℕ, _+_, _-_, _<_, _≤_};
 ghost use lib.Dec.{ltb};
 ghost use lib.ListN.{length, getD, drop};
@@ -10,10 +10,10 @@ ghost use Rattle.rules.specs.Authors.{leader};
 ghost use Rattle.rules.specs.Record.{first, records, vertices};
 ghost use Rattle.rules.specs.Check.{check};
 ghost use Rattle.rules.specs.Decision.{cell};
-ghost use Rattle.rules.specs.Decide.{document01, highest, decisions, decisionAt, throughAnchor};
+ghost use Rattle.rules.specs.Decide.{document01, highest, anchor, indirect, decisions, decisionAt, throughAnchor};
 ghost use Rattle.rules.specs.Settlement.{writtenOver};
 ghost use Rattle.settlement.specs.Range.{startOf};
-ghost use Rattle.settlement.specs.Cells.{stopAt, CellsFrom, Walked};
+ghost use Rattle.settlement.specs.Cells.{stopAt, Walked};
 use crate::direct::direct_commit;
 use crate::direct::direct_skip;
 use crate::history::Walk;
@@ -76,7 +76,7 @@ fn cell_of(p: usize, k: usize, other: u32) -> u32
     other
 }
 
-// The round through its anchor, which the cell t holds.
+// The round through its anchor, the vertex at a.
 fn through_anchor(n: u8, table: &[u8], round: u32, a: usize, walk: Walk, marks: &mut [u8]) -> Round
     requires { ⌜ check first n (now table) ≡ Passed ⌝ }
     requires { ⌜ 0 < round ⌝ }
@@ -99,7 +99,39 @@ fn through_anchor(n: u8, table: &[u8], round: u32, a: usize, walk: Walk, marks: 
     }
 }
 
-// One round, where the cells above it hold the decisions of theirs.
+// One round by the indirect rule, where the cells above it hold the decisions of theirs.
+fn decide_indirect(
+    n: u8,
+    table: &[u8],
+    round: u32,
+    cells: &[u32],
+    walk: Walk,
+    marks: &mut [u8],
+) -> Round
+    requires { ⌜ check first n (now table) ≡ Passed ⌝ }
+    requires { ⌜ 0 < round ⌝ }
+    requires { ⌜ round ≤ highest (vertices first (now table)) ⌝ }
+    requires { ⌜ highest (vertices first (now table)) ≤ length (now cells) ⌝ }
+    requires { ⌜ ((t : ℕ) → round ≤ t → t < highest (vertices first (now table)) → getD (now cells) t 0 ≡ cell (decisionAt (decisions (document01 n) n (vertices first (now table))) t)) ⌝ }
+    requires { ⌜ records first (now table) ≤ length (now marks) ⌝ }
+    requires { ⌜ Walked (vertices first (now table)) (walk .anchor) (walk .done) (now marks) ⌝ }
+    ensures { λ r. ⌜ length (now (marks .exit)) ≡ length (now (marks .entry)) ⌝ }
+    ensures { λ r. ⌜ r .cell ≡ cell (indirect (document01 n) n (vertices first (now (table .entry))) (round - 1) (anchor (drop (round + 2) (decisions (document01 n) n (vertices first (now (table .entry))))))) ⌝ }
+    ensures { λ r. ⌜ Walked (vertices first (now (table .entry))) (r .walk .anchor) (r .walk .done) (now (marks .exit)) ⌝ }
+{
+    let top = highest_of(table) as usize;
+    let t = stop_at(cells, round as usize + 2, top);
+    if top <= t {
+        return Round { cell: 0, walk };
+    }
+    let c = cells[t];
+    if c == 0 {
+        return Round { cell: 0, walk };
+    }
+    through_anchor(n, table, round, c as usize - 2, walk, marks)
+}
+
+// One round: by the direct rules, and else by the indirect one.
 fn decide_round(
     n: u8,
     table: &[u8],
@@ -120,7 +152,6 @@ fn decide_round(
     ensures { λ r. ⌜ Walked (vertices first (now (table .entry))) (r .walk .anchor) (r .walk .done) (now (marks .exit)) ⌝ }
 {
     let k = table.len() / RECORD;
-    let top = highest_of(table) as usize;
     let leader = leader_of(n, round);
     let p = direct_commit(n, table, round, leader, marks);
     if p < k {
@@ -132,15 +163,7 @@ fn decide_round(
     if direct_skip(n, table, round, leader, marks) {
         return Round { cell: 1, walk };
     }
-    let t = stop_at(cells, round as usize + 2, top);
-    if top <= t {
-        return Round { cell: 0, walk };
-    }
-    let c = cells[t];
-    if c == 0 {
-        return Round { cell: 0, walk };
-    }
-    through_anchor(n, table, round, c as usize - 2, walk, marks)
+    decide_indirect(n, table, round, cells, walk, marks)
 }
 
 // Every round up to the highest. The marks are work space.

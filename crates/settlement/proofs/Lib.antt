@@ -7,3 +7,4 @@ pub mod InCells
 pub mod Writing
 pub mod Counting
 pub mod Ordered
+pub mod Settled

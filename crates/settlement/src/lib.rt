@@ -26,8 +26,8 @@ fn refused(r: Refusal) -> Settlement
     }
 }
 
-// Checks the table, decides every round and writes the order. A refusal changes no lent byte. The taken bytes serve as work space
-// before they are written.
+// Checks the table, decides every round and writes the order. A refusal changes no lent byte. The taken bytes of the records serve as work
+// space before they are written.
 pub fn settle(
     n: u8,
     table: &[u8],
@@ -54,7 +54,7 @@ pub fn settle(
     if taken.len() < k {
         return refused(Refusal::Lent);
     }
-    decide::decide_all(n, table, cells, taken);
+    decide::decide_all(n, table, cells, &mut taken[0..k]);
     let written = order::write_order(n, table, top, cells, order, taken);
     let counts = Counts {
         records: k,

@@ -8,3 +8,4 @@ pub mod Writing
 pub mod Counting
 pub mod Ordered
 pub mod Settled
+pub mod Unique

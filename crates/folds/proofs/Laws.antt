@@ -94,6 +94,16 @@ first-unique p k m m′ a b = omega (arith, first-low p k m m′ a b, first-low 
 pub first-by : (p : ℕ → Bool) (k m : ℕ) → First p k m → firstTo p k ≡ m
 first-by p k m a = first-unique p k (firstTo p k) m (first-is p k) a
 
+-- two tests that agree below the bound
+pub first-same : (p q : ℕ → Bool) (k : ℕ) → ((i : ℕ) → i < k → p i ≡ q i) → firstTo p k ≡ firstTo q k
+first-same p q k h =
+    let f = first-is q k in
+    first-by p k (firstTo q k) (record {
+      within = f .within;
+      before = λ i l. h i (omega (arith, f .within)) ∙ f .before i l;
+      hit = λ l. h (firstTo q k) l ∙ f .hit l;
+    })
+
 -- ---- countTo
 
 pub count-start : (p : ℕ → Bool) → countTo p 0 ≡ 0
@@ -159,6 +169,9 @@ pub count-mono : (p q : ℕ → Bool) (n : ℕ) → ((i : ℕ) → i < n → p i
 unfolding countTo
 count-mono p q zero h = zero-le
 count-mono p q (suc n) h = omega (arith, bit-mono (p n) (q n) (h n (le-refl (suc n))), count-mono p q n (λ i l. h i (le-step l)))
+
+pub count-same : (p q : ℕ → Bool) (k : ℕ) → ((i : ℕ) → i < k → p i ≡ q i) → countTo p k ≡ countTo q k
+count-same p q k h = omega (arith, count-mono p q k (λ i l e. sym (h i l) ∙ e), count-mono q p k (λ i l e. h i l ∙ e))
 
 -- past the last that passes, nothing is counted and nothing is found
 pub count-cut : (p : ℕ → Bool) (n k : ℕ) → ((i : ℕ) → n ≤ i → i < n + k → p i ≡ false) → countTo p (n + k) ≡ countTo p n

@@ -25,6 +25,11 @@ pub passed : (a : Bool) → (a ≡ false → ⊥) → a ≡ true
 passed true h = refl
 passed false h = absurd (h refl)
 
+-- two tests that follow from each other are the same
+pub both-ways : (a b : Bool) → (a ≡ true → b ≡ true) → (b ≡ true → a ≡ true) → a ≡ b
+both-ways true b f g = sym (f refl)
+both-ways false b f g = sym (failed b (λ e. not-both (g e) refl))
+
 -- ---- and
 
 pub and-left : (a b : Bool) → a and b ≡ true → a ≡ true
@@ -68,6 +73,11 @@ pub or-false : (a b : Bool) → a ≡ false → b ≡ false → a or b ≡ false
 unfolding _or_
 or-false true b p q = p
 or-false false b p q = q
+
+pub or-none : (a : Bool) → a or false ≡ a
+unfolding _or_
+or-none true = refl
+or-none false = refl
 
 pub or-neither : (a b : Bool) → a or b ≡ false → (a ≡ false) × (b ≡ false)
 unfolding _or_

@@ -13,8 +13,8 @@ use lib.ListN.{length, getD, set, replicate, length-set, length-replicate, getD-
 use lib.Seq.{getD-set-same, getD-set-other, ext-getD}
 use borrow.Author.Tests.{eqb-true, eqb-false, leb-true, ltb-true, ltb-false, eq-eqb, ne-eqb, le-leb, lt-leb, lt-ltb, le-ltb}
 use Rattle.folds.specs.Folds.{_and_, countTo, firstTo, tabulate}
-use Rattle.folds.proofs.Tests.{by-test, not-both, failed, and-left, and-right, and-true, not-true, is-not}
-use Rattle.folds.proofs.Laws.{First, first-is, first-by, count-witness, count-and, count-mono, count-cut}
+use Rattle.folds.proofs.Tests.{by-test, not-both, failed, and-left, and-right, and-true, not-true, is-not, both-ways}
+use Rattle.folds.proofs.Laws.{First, first-is, first-by, count-witness, count-and, count-mono, count-cut, count-same, first-same}
 use Rattle.folds.proofs.Lists.{length-tabulate, getD-tabulate}
 use Rattle.rules.specs.declared.Name.{Name}
 use Rattle.rules.specs.declared.Vertex.{Vertex}
@@ -31,23 +31,6 @@ use Rattle.table.specs.Part.{named}
 use Rattle.table.specs.Search.{findBelow}
 use Rattle.table.proofs.Lookups.{find-below}
 use Rattle.settlement.specs.Certify.{backs, countMark, enoughOf, certifiedAt}
-
--- ---- two tests that agree
-
-pub same-test : (a b : Bool) → (a ≡ true → b ≡ true) → (b ≡ true → a ≡ true) → a ≡ b
-same-test a b f g = by-test a (λ e. e ∙ sym (f e)) (λ e. e ∙ sym (failed b (λ h. not-both (g h) e)))
-
-pub count-same : (p q : ℕ → Bool) (k : ℕ) → ((i : ℕ) → i < k → p i ≡ q i) → countTo p k ≡ countTo q k
-count-same p q k h = omega (arith, count-mono p q k (λ i l e. sym (h i l) ∙ e), count-mono q p k (λ i l e. h i l ∙ e))
-
-pub first-same : (p q : ℕ → Bool) (k : ℕ) → ((i : ℕ) → i < k → p i ≡ q i) → firstTo p k ≡ firstTo q k
-first-same p q k h =
-    let f = first-is q k in
-    first-by p k (firstTo q k) (record {
-      within = f .within;
-      before = λ i l. h i (omega (arith, f .within)) ∙ f .before i l;
-      hit = λ l. h (firstTo q k) l ∙ f .hit l;
-    })
 
 -- ---- an array of 31 that is filled from its front and is 0 from there on
 
@@ -71,7 +54,7 @@ filled-next f i r v l e s = record {
     here j q = rw (q, lt-ltb i (i + 1) (omega arith)) (getD-set-same r i v 0 (omega (arith, s .size)) ∙ e)
 
     same : (j : ℕ) → (j ≡ i → ⊥) → ltb j (i + 1) ≡ ltb j i
-    same j d = same-test (ltb j (i + 1)) (ltb j i) (λ b. lt-ltb j i (omega (arith, d, ltb-true j (i + 1) b))) (λ b. lt-ltb j (i + 1) (omega (arith, ltb-true j i b)))
+    same j d = both-ways (ltb j (i + 1)) (ltb j i) (λ b. lt-ltb j i (omega (arith, d, ltb-true j (i + 1) b))) (λ b. lt-ltb j (i + 1) (omega (arith, ltb-true j i b)))
 
     other : (j : ℕ) → j < 31 → (j ≡ i → ⊥) → getD (set r i v) j 0 ≡ cond (ltb j (i + 1)) (f j) 0
     other j h d = rw (same j d) (getD-set-other r i j v 0 d ∙ s .told j h)
@@ -221,7 +204,7 @@ module _ {n : ℕ} {vs : List Vertex} (A : Accepted n vs) where
   -- a reference backs the mark of a vertex exactly when it is to a supporter
   back-supports : (v b : Vertex) (i : ℕ) → v .round ≡ b .round + 2 → b .mark ≢ 0 → refers v i and supports (vertexOf vs (entryName v i)) b ≡ eqb (backed (v .refs) (b .round + 1) (b .author) i) (b .mark)
   unfolding supports
-  back-supports v b i e d = same-test _ _ (λ t. there (and-right _ _ t)) (λ t. back (eqb-true _ _ t))
+  back-supports v b i e d = both-ways _ _ (λ t. there (and-right _ _ t)) (λ t. back (eqb-true _ _ t))
     where
       x : Name
       x = named (b .round + 1) i (entry v i)
@@ -256,7 +239,7 @@ module _ {n : ℕ} {vs : List Vertex} (A : Accepted n vs) where
   -- the vertex of the mark that a quorum backs is the vertex of the slot that is certified
   pub certified-is : (w round leader : ℕ) → at vs w .round ≡ round + 2 → find vs (named round leader (enoughOf (marks (at vs w .refs) (round + 1) leader) (quorum n))) ≡ certifiedAt n vs round leader w
   unfolding find certifiedAt
-  certified-is w round leader e = first-same _ _ (length vs) (λ p l. same-test _ _ (λ t. there p l (same-name _ _ t)) (λ t. back p l t))
+  certified-is w round leader e = first-same _ _ (length vs) (λ p l. both-ways _ _ (λ t. there p l (same-name _ _ t)) (λ t. back p l t))
     where
       m : ℕ
       m = enoughOf (marks (at vs w .refs) (round + 1) leader) (quorum n)
@@ -279,7 +262,7 @@ module _ {n : ℕ} {vs : List Vertex} (A : Accepted n vs) where
   -- of a vertex of the slot, it is the one found exactly when it is certified
   pub certified-test : (w round leader p : ℕ) → at vs w .round ≡ round + 2 → p < length vs → at vs p .round ≡ round → at vs p .author ≡ leader
       → eqb (certifiedAt n vs round leader w) p ≡ certifies n vs (at vs w) (at vs p)
-  certified-test w round leader p e l r a = same-test _ _ (λ t. there (eqb-true _ _ t)) (λ t. eq-eqb _ _ (back t))
+  certified-test w round leader p e l r a = both-ways _ _ (λ t. there (eqb-true _ _ t)) (λ t. eq-eqb _ _ (back t))
     where
       there : certifiedAt n vs round leader w ≡ p → certifies n vs (at vs w) (at vs p) ≡ true
       there q = and-right _ _ (subst (λ j. (eqb (at vs j .round) round and eqb (at vs j .author) leader) and certifies n vs (at vs w) (at vs j) ≡ true) q (certified-first n vs round leader w .hit (omega arith)))

@@ -13,7 +13,7 @@ use lib.ListN.{length, getD, set, replicate}
 use borrow.Author.Tests.{eqb-true, eqb-false, eq-eqb, ne-eqb, ltb-true, ltb-false}
 use Rattle.folds.specs.Folds.{_and_, _or_, bit, countTo, anyTo, firstTo, tabulate}
 use Rattle.folds.proofs.Tests.{by-test, not-both, failed, and-left, and-right, and-true, or-cases, or-right, not-true, is-not, compare}
-use Rattle.folds.proofs.Laws.{first-by, any-none, any-witness, any-intro, count-mono}
+use Rattle.folds.proofs.Laws.{first-by, any-none, any-witness, any-intro, count-mono, count-same}
 use Rattle.folds.proofs.Lists.{getD-tabulate, tabulate-same}
 use Rattle.rules.specs.declared.Name.{Name}
 use Rattle.rules.specs.declared.Vertex.{Vertex}
@@ -24,8 +24,7 @@ use Rattle.rules.specs.Settlement.{equivocates, equivocators}
 use Rattle.rules.proofs.Names.{Below, is-below, below-round, below-mark}
 use Rattle.rules.proofs.Records.{vertices-length, vertices-at}
 use Rattle.rules.proofs.Accepted.{Accepted, accepted, author-low, rising}
-use Rattle.table.proofs.Names.{record-part, name-at}
-use Rattle.table.proofs.Records.{lent}
+use Rattle.table.proofs.Names.{record-part, name-at, lent}
 use Rattle.settlement.proofs.Writing.{or-last, set-tabulate}
 
 -- ---- a search from below
@@ -37,10 +36,6 @@ first-found p k i l none t = sym (first-by p k i (record { within = omega arith;
 -- none passes
 pub first-none : (p : ℕ → Bool) (k : ℕ) → anyTo p k ≡ false → k ≡ firstTo p k
 first-none p k none = sym (first-by p k k (record { within = le-refl k; before = any-none p k none; hit = λ l. absurd (omega arith) }))
-
--- two tests that agree below the bound
-pub count-same : (p q : ℕ → Bool) (k : ℕ) → ((i : ℕ) → i < k → p i ≡ q i) → countTo p k ≡ countTo q k
-count-same p q k h = omega (arith, count-mono p q k (λ i l t. sym (h i l) ∙ t), count-mono q p k (λ i l t. h i l ∙ t))
 
 -- ---- two neighbours
 

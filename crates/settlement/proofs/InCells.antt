@@ -13,8 +13,8 @@ use lib.ListN.{length, getD, set, take, drop, length-set, length-append, length-
 use lib.Seq.{drop-drop, getD-drop, getD-set-same, getD-set-other, getD-append-add, ext-getD}
 use borrow.Author.Tests.{eqb-true, eqb-false, ne-eqb, leb-true, leb-false, le-leb, ltb-true, ltb-false, lt-ltb, le-ltb}
 use Rattle.folds.specs.Folds.{_and_, _or_, bit, anyTo, firstTo}
-use Rattle.folds.proofs.Tests.{by-test, not-both, failed, and-left, and-right, and-true, or-cases, or-left, or-right, or-false, not-true, is-not}
-use Rattle.folds.proofs.Laws.{First, first-is, first-by, any-witness, any-intro}
+use Rattle.folds.proofs.Tests.{by-test, not-both, failed, and-left, and-right, and-true, or-cases, or-left, or-right, or-false, not-true, is-not, both-ways}
+use Rattle.folds.proofs.Laws.{First, first-is, first-by, any-witness, any-intro, first-same}
 use Rattle.rules.specs.declared.Vertex.{Vertex}
 use Rattle.rules.specs.declared.Checked.the-variants.{Passed}
 use Rattle.rules.specs.Record.{number, first, decode, records, vertices, noVertex, at, nameOf}
@@ -38,7 +38,6 @@ use Rattle.settlement.specs.Work.{historyAt, Retagged}
 use Rattle.settlement.specs.Sweep.{Swept}
 use Rattle.settlement.specs.Cells.{firstIn, stopAt, Walked}
 use Rattle.settlement.proofs.Ranges.{InRound, Under, start-bound, start-under, in-round, round-in, round-limit}
-use Rattle.settlement.proofs.Certified.{same-test, first-same}
 use Rattle.settlement.proofs.Sweeps.{history-size, history-low, marked-far, swept-retagged}
 
 -- ---- the highest round
@@ -159,7 +158,7 @@ module _ (n : ℕ) (t : List ℕ) (ok : check first n t ≡ Passed) (round leade
 
   pub told-yes : (w : ℕ) → getD h w false ≡ true → below (w + 1) ≡ min (below w) (certifiedAt n vs round leader w)
   unfolding toldBelow certifiedAt
-  told-yes w e = first-or _ _ _ (length vs) (λ p l. same-test _ _ (to p) (from p))
+  told-yes w e = first-or _ _ _ (length vs) (λ p l. both-ways _ _ (to p) (from p))
     where
       to : (p : ℕ) → slot p and anyTo (tells p) (w + 1) ≡ true → (slot p and anyTo (tells p) w) or (slot p and certifies n vs (at vs w) (at vs p)) ≡ true
       to p k =
@@ -177,7 +176,7 @@ module _ (n : ℕ) (t : List ℕ) (ok : check first n t ≡ Passed) (round leade
   told-no w e = first-same _ _ (length vs) (λ p l. ap (λ b. slot p and b) (any-more (tells p) w ∙ or-nothing _ _ (failed _ (λ k. not-both (and-left _ _ k) e))))
     where
       or-nothing : (b c : Bool) → c ≡ false → b or c ≡ b
-      or-nothing b c z = same-test _ _ (λ k. ⊎-elim (λ x. x) (λ x. absurd (not-both x z)) (or-cases _ _ k)) (λ k. or-left _ _ k)
+      or-nothing b c z = both-ways _ _ (λ k. ⊎-elim (λ x. x) (λ x. absurd (not-both x z)) (or-cases _ _ k)) (λ k. or-left _ _ k)
 
   three : startOf t (round + 3) 0 ≡ startOf t (round + 2 + 1) 0
   three = let e : round + 3 ≡ round + 2 + 1 = omega arith in ap (λ (r : ℕ). startOf t r 0) e
@@ -190,7 +189,7 @@ module _ (n : ℕ) (t : List ℕ) (ok : check first n t ≡ Passed) (round leade
 
   pub told-end : below (startOf t (round + 3) 0) ≡ firstIn vs round leader (certifiedIn n vs h)
   unfolding toldBelow firstIn certifiedIn
-  told-end = first-same _ _ (length vs) (λ p l. same-test _ _ (λ e. and-true _ _ (and-left _ _ e) (to p (any-witness _ _ (and-right _ _ e)))) (λ e. and-true _ _ (and-left _ _ e) (from p (and-left _ _ e) (any-witness _ _ (and-right _ _ e)))))
+  told-end = first-same _ _ (length vs) (λ p l. both-ways _ _ (λ e. and-true _ _ (and-left _ _ e) (to p (any-witness _ _ (and-right _ _ e)))) (λ e. and-true _ _ (and-left _ _ e) (from p (and-left _ _ e) (any-witness _ _ (and-right _ _ e)))))
     where
       size : length h ≡ suc a
       size = history-size A a (in-vs a la)

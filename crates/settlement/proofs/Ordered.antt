@@ -14,8 +14,8 @@ use lib.ListN.{length, getD, drop, length-append, length-drop, drop-of-length-le
 use lib.Seq.{drop-cons}
 use borrow.Author.Tests.{eqb-true, eq-eqb, ltb-true, ltb-false}
 use Rattle.folds.specs.Folds.{_and_, _or_, bit, countTo, filterTo, member}
-use Rattle.folds.proofs.Tests.{by-test, not-both, failed, and-left, or-cases, or-left, or-right}
-use Rattle.folds.proofs.Laws.{count-low, count-cut}
+use Rattle.folds.proofs.Tests.{by-test, not-both, failed, and-left, or-cases, or-left, or-right, both-ways}
+use Rattle.folds.proofs.Laws.{count-low, count-cut, count-same}
 use Rattle.folds.proofs.Lists.{filter-length, filter-sound, filter-complete, member-sound, member-complete, length-tabulate}
 use Rattle.rules.specs.declared.Vertex.{Vertex}
 use Rattle.rules.specs.Record.{at, nameOf}
@@ -29,8 +29,7 @@ use Rattle.rules.proofs.Accepted.{Accepted}
 use Rattle.rules.proofs.Decide.{decisions-length, leads}
 use Rattle.rules.proofs.Highest.{one-later}
 use Rattle.settlement.specs.Write.{bytesOver, placesOver, written, Told, fresh, Led}
-use Rattle.settlement.proofs.Sweeps.{both-ways, history-size, history-past, history-low, history-step}
-use Rattle.settlement.proofs.Counting.{count-same}
+use Rattle.settlement.proofs.Sweeps.{history-size, history-past, history-low, history-step}
 use Rattle.settlement.proofs.Writing.{over-at, over-length, over-same, over-over, over-none, places-over, filter-same}
 
 -- ---- the slots that are left

@@ -13,7 +13,7 @@ use lib.ListN.{length, getD, set, take, drop, List·getD-eq-default}
 use lib.Seq.{getD-set-same, getD-set-other}
 use borrow.Author.Tests.{eqb-true, eqb-false, eq-eqb, leb-true, le-leb, ltb-true, ltb-false, lt-ltb}
 use Rattle.folds.specs.Folds.{_and_, _or_, bit}
-use Rattle.folds.proofs.Tests.{by-test, not-both, failed, and-left, and-right, and-true, or-cases, or-left, or-right, is-not, is-not-true}
+use Rattle.folds.proofs.Tests.{by-test, not-both, failed, and-left, and-right, and-true, or-cases, or-left, or-right, is-not, is-not-true, both-ways, or-none}
 use Rattle.folds.proofs.Laws.{any-witness, any-intro, first-by}
 use Rattle.rules.specs.declared.Name.{Name}
 use Rattle.rules.specs.declared.Vertex.{Vertex}
@@ -34,11 +34,6 @@ use Rattle.table.proofs.Earlier.{entry-named}
 use Rattle.table.proofs.Search.{Falls, halves-first, found-here}
 use Rattle.settlement.specs.Work.{historyAt, Retagged}
 use Rattle.settlement.specs.Sweep.{markedFrom, Swept}
-
--- two tests that follow from each other are the same
-pub both-ways : (a b : Bool) → (a ≡ true → b ≡ true) → (b ≡ true → a ≡ true) → a ≡ b
-both-ways true b f g = sym (f refl)
-both-ways false b f g = sym (failed b (λ e. not-both (g e) refl))
 
 -- ---- the history, from one position to the next
 
@@ -317,11 +312,6 @@ start-alone m k a b l e h i li = by-test (eqb i a) here (λ t. rw (getD-set-othe
 -- What the first i entries of the vertex at p name is marked, beside what was.
 abbrev pub MarkedTo : List Vertex → (p i : ℕ) → List ℕ → List ℕ → Type 0
 MarkedTo vs p i old m = (q : ℕ) → q < length vs → historyAt m q ≡ bit (eqb (historyAt old q) 1 or namedTo vs p i q)
-
-or-none : (b : Bool) → b or false ≡ b
-unfolding _or_
-or-none true = refl
-or-none false = refl
 
 pub marked-none : (vs : List Vertex) (p : ℕ) (m : List ℕ) → ((q : ℕ) → getD m q 0 < 256) → MarkedTo vs p 0 m m
 marked-none vs p m h q l = byte-bit (getD m q 0) (h q) ∙ ap bit (sym (or-none _) ∙ ap (λ b. eqb (historyAt m q) 1 or b) (sym (named-none vs p q)))

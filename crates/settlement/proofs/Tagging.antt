@@ -11,8 +11,8 @@ use lib.ListN.{length, getD, set, length-set}
 use lib.Seq.{getD-set-same, getD-set-other}
 use borrow.Author.Tests.{eqb-true, eqb-false, ltb-true, ltb-false, eq-eqb, ne-eqb, lt-ltb, le-ltb}
 use Rattle.folds.specs.Folds.{_and_, bit, anyTo}
-use Rattle.folds.proofs.Tests.{by-test, and-left, and-right, and-true}
-use Rattle.folds.proofs.Laws.{any-witness, any-intro, any-next, any-same}
+use Rattle.folds.proofs.Tests.{by-test, and-left, and-right, and-true, both-ways}
+use Rattle.folds.proofs.Laws.{any-witness, any-intro, any-next, any-same, count-same}
 use Rattle.rules.specs.declared.Vertex.{Vertex}
 use Rattle.rules.specs.declared.Checked.the-variants.{Passed}
 use Rattle.rules.specs.Authors.{quorum}
@@ -26,7 +26,7 @@ use Rattle.settlement.specs.Range.{startOf}
 use Rattle.settlement.specs.Certify.{certifiedAt}
 use Rattle.settlement.specs.Work.{historyAt, tagAt, Retagged, Tagged, authorsTagged, windowTag}
 use Rattle.settlement.proofs.Ranges.{InSlot, in-slot, slot-in, round-in}
-use Rattle.settlement.proofs.Certified.{same-test, count-same, certified-test}
+use Rattle.settlement.proofs.Certified.{certified-test}
 
 -- ---- bytes that are tagged
 
@@ -82,7 +82,7 @@ module _ (m : List ℕ) (from tag q : ℕ) (l : from ≤ q) where
 
 -- a tag from 1 on for each position from b up to e
 window-test : (c p b e : ℕ) → b ≤ p → p < e → eqb (windowTag c b e) (p - b + 1) ≡ eqb c p
-window-test c p b e l h = same-test _ _ there (λ t. let q : c ≡ p = eqb-true c p t in rw (q, le-ltb p b l, lt-ltb p e h) (eq-eqb (p - b + 1) (p - b + 1) refl))
+window-test c p b e l h = both-ways _ _ there (λ t. let q : c ≡ p = eqb-true c p t in rw (q, le-ltb p b l, lt-ltb p e h) (eq-eqb (p - b + 1) (p - b + 1) refl))
   where
     there : eqb (windowTag c b e) (p - b + 1) ≡ true → eqb c p ≡ true
     there t = by-test (ltb c b) low (λ f. by-test (ltb c e) (within f) (high f))
@@ -123,7 +123,7 @@ module _ (n : ℕ) (t : List ℕ) (ok : check first n t ≡ Passed) where
 
   -- its vertices stand side by side
   pub author-tagged : (k tag a : ℕ) (m : List ℕ) → anyTo (taggedFrom m (startOf t k a) tag) (startOf t k (a + 1) - startOf t k a) ≡ authorTagged vs k tag m a
-  author-tagged k tag a m = same-test _ _ (λ e. there (any-witness _ _ e)) (λ e. back (any-witness _ _ e))
+  author-tagged k tag a m = both-ways _ _ (λ e. there (any-witness _ _ e)) (λ e. back (any-witness _ _ e))
     where
       s : ℕ
       s = startOf t k a
@@ -144,7 +144,7 @@ module _ (n : ℕ) (t : List ℕ) (ok : check first n t ≡ Passed) where
   authors-tagged-are : (k tag : ℕ) (m : List ℕ) (pass : Vertex → Bool) → ((q : ℕ) → q < length vs → at vs q .round ≡ k → eqb (tagAt m q) tag ≡ pass (at vs q))
       → ((v : Vertex) → pass v ≡ true → v .round ≡ k) → authorsTagged n vs k tag m ≡ authorsWith n vs pass
   unfolding authorsTagged authorsWith
-  authors-tagged-are k tag m pass told round = count-same _ _ n (λ a l. any-same _ _ (length vs) (λ q h. same-test _ _ (λ e. there a q h e) (λ e. back a q h e)))
+  authors-tagged-are k tag m pass told round = count-same _ _ n (λ a l. any-same _ _ (length vs) (λ q h. both-ways _ _ (λ e. there a q h e) (λ e. back a q h e)))
     where
       there : (a q : ℕ) → q < length vs → (eqb (at vs q .round) k and eqb (at vs q .author) a) and eqb (tagAt m q) tag ≡ true → eqb (at vs q .author) a and pass (at vs q) ≡ true
       there a q h e =
@@ -169,7 +169,7 @@ module _ (n : ℕ) (t : List ℕ) (ok : check first n t ≡ Passed) where
       told : (q : ℕ) → q < length vs → at vs q .round ≡ r + 1 → eqb (tagAt m q) 1 ≡ blank (at vs q) r leader
       told q l e =
           rw (T .tags q l e) (one (eqb (entry (at vs q) leader) 0)
-          ∙ same-test _ _ (λ h. is-blank _ r leader (record { one-up = e; empty = eqb-true _ _ h })) (λ h. eq-eqb _ _ (blank-is _ r leader h .empty)))
+          ∙ both-ways _ _ (λ h. is-blank _ r leader (record { one-up = e; empty = eqb-true _ _ h })) (λ h. eq-eqb _ _ (blank-is _ r leader h .empty)))
 
   -- tag p - b + 1 on those that certify the vertex at p
   pub commit-tagged : (r leader b e p : ℕ) (m : List ℕ) → ((w : ℕ) → w < records first t → at vs w .round ≡ r + 2 → tagAt m w ≡ windowTag (certifiedAt n vs r leader w) b e)

@@ -34,7 +34,7 @@ extern "C" {
  * in turn. The position is that of the record, counted from 0, and 0 for 1, 2, 3, 10, 11 and 12.
  */
 enum record_box_number {
-    RECORD_BOX_NONE = 0,     /* nothing is refused: the table passes, or the name is found */
+    RECORD_BOX_NONE = 0,     /* nothing is refused: the table passes or is settled, or the name is found */
     RECORD_BOX_AUTHORS = 1,  /* n is none of 4, 7, 10, .. 31 */
     RECORD_BOX_LENGTH = 2,   /* the length is not a multiple of 138 */
     RECORD_BOX_RECORDS = 3,  /* more than 4,096 records */
@@ -61,6 +61,20 @@ struct record_box_part {
     size_t length;
 };
 
+/*
+ * What a settlement gives. Number 0: the table is settled, the position is 0 and the counts are those of the table. Else the
+ * number and position of the refusal, and every count is 0.
+ */
+struct record_box_settled {
+    uint32_t number;
+    size_t position;
+    size_t records;
+    uint32_t highest;    /* the highest round, 0 without records */
+    uint32_t undecided;  /* the first undecided round; one above the highest if every round is decided */
+    size_t written;      /* how many positions are written to order */
+    size_t equivocators; /* how many authors have two records in some one round */
+};
+
 /* Checks a table of table_length bytes (not records). Number 0 (passed) to 9. */
 struct record_box_answer record_box_check(uint8_t n, const uint8_t *table, size_t table_length);
 
@@ -74,6 +88,25 @@ struct record_box_part record_box_lookup(uint8_t n, const uint8_t *table, size_t
 /* Why there is no such record: number 0 (found), 1 to 9 (the table is refused) or 11 (no such name). */
 struct record_box_answer record_box_lookup_answer(uint8_t n, const uint8_t *table, size_t table_length, uint32_t round,
                                                   uint8_t author, uint32_t mark);
+
+/*
+ * Settles a table. It checks the table first. Number 0 (settled), 1 to 9 (the table is refused) or 10 (a lent buffer is too
+ * short).
+ *
+ * The caller lends three buffers and owns them throughout. Lengths count elements. A settled table needs at least
+ *   cells   as many as its highest round: cells[r - 1] becomes the decision of round r, 0 undecided, 1 skipped, 2 + p if the
+ *           leader vertex at position p is committed
+ *   order   as many as it has records: order[0] to order[written - 1] become the written positions, in order
+ *   taken   as many as it has records: taken[p] becomes 1 if position p is written and else 0
+ * and 1,400 cells, 4,096 order places and 4,096 taken bytes suffice for every table. What lies past these is kept as it was,
+ * as are the order places from written on. What the buffers held before has no influence on the rest. On a refusal nothing
+ * is changed in any of them.
+ *
+ * No buffer may overlap another or the table.
+ */
+struct record_box_settled record_box_settle(uint8_t n, const uint8_t *table, size_t table_length, uint32_t *cells,
+                                            size_t cells_length, uint32_t *order, size_t order_length, uint8_t *taken,
+                                            size_t taken_length);
 
 #ifdef __cplusplus
 }

@@ -1,12 +1,13 @@
 //! Times of the proved check beside a plain one, on the same tables in the same run,
-//! and the stack that each call takes.
+//! those of the settlement (`settle_bench`), and the stack that each call takes.
 
 use crate::check::check;
 use crate::compare::answer;
-use crate::generate::honest;
+use crate::generate::{honest, Lent};
 use crate::library::{self, stack_of};
 use crate::plain;
 use crate::record::{Name, MOST_RECORDS};
+use crate::settle_bench::{self, met, room, settle, Settlements};
 use std::fmt::{Display, Formatter};
 use std::hint::black_box;
 use std::time::{Duration, Instant};
@@ -42,6 +43,7 @@ pub struct Bench {
     emulator: Option<String>,
     /// For each n, the half-size table and then the full one.
     pairs: Vec<[Timed; 2]>,
+    settlements: Settlements,
     stacks: Vec<Stack>,
     /// Tables on which the answers differ.
     differed: Vec<String>,
@@ -49,7 +51,7 @@ pub struct Bench {
 
 impl Bench {
     pub fn differed(&self) -> bool {
-        !self.differed.is_empty()
+        !self.differed.is_empty() || self.settlements.differed()
     }
 }
 
@@ -58,6 +60,7 @@ pub fn bench() -> Bench {
     let mut bench = Bench {
         emulator: emulator.filter(|name| !name.is_empty()),
         pairs: Vec::new(),
+        settlements: settle_bench::settlements(),
         stacks: stacks(),
         differed: Vec::new(),
     };
@@ -110,13 +113,13 @@ fn timed(n: u8, records: usize, table: &[u8]) -> Timed {
     }
 }
 
-fn time<T>(call: impl FnOnce() -> T) -> Duration {
+pub(crate) fn time<T>(call: impl FnOnce() -> T) -> Duration {
     let began = Instant::now();
     black_box(call());
     began.elapsed()
 }
 
-fn over(a: Duration, b: Duration) -> f64 {
+pub(crate) fn over(a: Duration, b: Duration) -> f64 {
     a.as_secs_f64() / b.as_secs_f64()
 }
 
@@ -129,6 +132,7 @@ fn stacks() -> Vec<Stack> {
         author,
         mark,
     } = last_name(&table);
+    let mut lent: Lent = room();
     let stack = |call, bytes| Stack { call, bytes };
     vec![
         stack("no call at all", stack_of(|| ())),
@@ -150,6 +154,12 @@ fn stacks() -> Vec<Stack> {
                 black_box(library::lookup_answer(n, &table, round, author, mark));
             }),
         ),
+        stack(
+            "settle",
+            stack_of(|| {
+                black_box(settle(n, &table, &mut lent));
+            }),
+        ),
     ]
 }
 
@@ -158,7 +168,7 @@ fn last_name(table: &[u8]) -> Name {
     crate::record::decode(record.expect("the table has records")).name()
 }
 
-fn milliseconds(duration: Duration) -> f64 {
+pub(crate) fn milliseconds(duration: Duration) -> f64 {
     1_000.0 * duration.as_secs_f64()
 }
 
@@ -202,10 +212,8 @@ impl Display for Bench {
         }
         let ratios = self.pairs.iter().flatten().map(Timed::ratio);
         let highest = ratios.fold(0.0, f64::max);
-        let met = match highest <= BAR {
-            true => "met",
-            false => "NOT met",
-        };
-        writeln!(f, "bar of {BAR}: {met}, the highest ratio is {highest:.2}")
+        let met = met(highest <= BAR);
+        writeln!(f, "bar of {BAR}: {met}, the highest ratio is {highest:.2}")?;
+        write!(f, "{}", self.settlements)
     }
 }

@@ -2,11 +2,11 @@
 //! tables, and counts where they differ.
 
 use crate::check::{check, Refusal};
-use crate::generate::{question, table, Kind};
-use crate::library::{self, Answer, Part};
+use crate::generate::{lent, question, table, Kind, Lent};
+use crate::library::{self, Answer, Part, Settled};
 use crate::record::RECORD_BYTES;
 use crate::rng::Rng;
-use crate::settle::lookup;
+use crate::settle::{lookup, settle, Counts, Outcome};
 use std::collections::BTreeMap;
 use std::fmt::Debug;
 
@@ -30,7 +30,7 @@ struct Asked {
 }
 
 /// Every call that is compared. A further call is a further line here.
-const CALLS: [fn(&Case) -> Vec<Asked>; 2] = [ask_check, ask_lookup];
+const CALLS: [fn(&Case) -> Vec<Asked>; 3] = [ask_check, ask_lookup, ask_settle];
 
 fn ask_check(case: &Case) -> Vec<Asked> {
     let expected = answer(check(case.n, &case.table));
@@ -52,6 +52,57 @@ fn ask_lookup(case: &Case) -> Vec<Asked> {
         asked("lookup", part_in_word(part), part, told),
         asked("lookup_answer", in_word(why, "found"), why, told_why),
     ]
+}
+
+/// Both settle with equally filled buffers. What these hold then is compared to the
+/// last place, with what is to be kept.
+fn ask_settle(case: &Case) -> Vec<Asked> {
+    let (n, table) = (case.n, &case.table);
+    let before = lent(n, table, case.seed);
+    let (mut mine, mut theirs) = (before.clone(), before.clone());
+    let Lent {
+        cells,
+        order,
+        taken,
+    } = &mut mine;
+    let expected = settled(settle(n, table, cells, order, taken));
+    let Lent {
+        cells,
+        order,
+        taken,
+    } = &mut theirs;
+    let told = library::settle(n, table, cells, order, taken);
+    let buffers = Asked {
+        call: "settle, buffers",
+        word: buffers_in_word(&before, &mine).to_string(),
+        difference: buffers_difference(&mine, &theirs),
+    };
+    let word = settled_in_word(expected, &before);
+    vec![asked("settle", word, expected, told), buffers]
+}
+
+fn buffers_in_word(before: &Lent, after: &Lent) -> &'static str {
+    match before == after {
+        true => "as they were",
+        false => "written to",
+    }
+}
+
+/// The first place of each buffer at which the two differ.
+fn buffers_difference(mine: &Lent, theirs: &Lent) -> Option<String> {
+    let found = [
+        place_difference("cell", &mine.cells, &theirs.cells),
+        place_difference("order place", &mine.order, &theirs.order),
+        place_difference("taken byte", &mine.taken, &theirs.taken),
+    ];
+    let found: Vec<String> = found.into_iter().flatten().collect();
+    (!found.is_empty()).then(|| found.join("; "))
+}
+
+fn place_difference<T: PartialEq + Debug>(of: &str, mine: &[T], theirs: &[T]) -> Option<String> {
+    let mut both = mine.iter().zip(theirs).enumerate();
+    let (place, (a, b)) = both.find(|(_, (a, b))| a != b)?;
+    Some(format!("{of} {place}: second {a:?}, library {b:?}"))
 }
 
 fn asked<T: PartialEq + Debug>(call: &'static str, word: String, expected: T, told: T) -> Asked {
@@ -88,6 +139,45 @@ fn part(found: Result<usize, Refusal>) -> Part {
             begin: 0,
             length: 0,
         },
+    }
+}
+
+/// The outcome as the C interface gives it.
+pub fn settled(outcome: Outcome) -> Settled {
+    let (refusal, counts) = match outcome {
+        Outcome::Settled(counts) => (Ok(()), counts),
+        Outcome::Refused(refusal) => (Err(refusal), NO_COUNTS),
+    };
+    let Answer { number, position } = answer(refusal);
+    Settled {
+        number,
+        position,
+        records: counts.records,
+        highest: counts.highest_round,
+        undecided: counts.first_undecided,
+        written: counts.written,
+        equivocators: counts.equivocators,
+    }
+}
+
+/// What a refusal has for counts.
+const NO_COUNTS: Counts = Counts {
+    records: 0,
+    highest_round: 0,
+    first_undecided: 0,
+    written: 0,
+    equivocators: 0,
+};
+
+/// Settled, and in buffers of what size, or the refusal.
+fn settled_in_word(settled: Settled, lent: &Lent) -> String {
+    let exact = lent.cells.len() == settled.highest as usize
+        && lent.order.len() == settled.records
+        && lent.taken.len() == settled.records;
+    match (settled.number, exact) {
+        (0, true) => "settled, exact buffers".to_string(),
+        (0, false) => "settled, some longer".to_string(),
+        (number, _) => format!("refusal {number:2}"),
     }
 }
 

@@ -455,12 +455,17 @@ fn over(most: usize, table: &[u8], rng: &mut Rng) -> Vec<u8> {
     filler.iter().copied().cycle().take(most + by).collect()
 }
 
+/// The bytes of a table of these vertices, with the sums mended.
+pub fn bytes_of(vertices: &[Vertex]) -> Vec<u8> {
+    bytes(&records(vertices))
+}
+
 /// An honest full table of exactly this many records.
 pub fn honest(n: u8, records: usize) -> Vec<u8> {
     let mut plan = Plan::full(n, 1_400);
     plan.most_records = records;
     let vertices = grow(&plan, &mut Rng::new(1));
-    bytes(&self::records(&vertices))
+    bytes_of(&vertices)
 }
 
 /// Lent memory for a settlement, with some contents.

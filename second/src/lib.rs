@@ -5,7 +5,8 @@
 //! rules; `rng`, `grow`, `damage`, `generate` and `shares` make random tables and
 //! show what these reach; `vectors` makes the stored tables of the crate of that name.
 //! With the feature `library`, `library` calls the proved code, `compare` asks both, and
-//! `bench` measures the proved code against `plain`.
+//! `bench` measures the proved check against `plain`; `settle_bench` the settlement against
+//! `plain_settle`, on honest tables and on those of `hostile`.
 
 #![cfg_attr(not(feature = "library"), forbid(unsafe_code))]
 #![deny(unsafe_code)]
@@ -21,13 +22,18 @@ pub mod decide;
 pub mod generate;
 pub mod grow;
 #[cfg(feature = "library")]
+pub mod hostile;
+#[cfg(feature = "library")]
 #[allow(unsafe_code)]
 pub mod library;
 pub mod plain;
+pub mod plain_settle;
 pub mod program;
 pub mod record;
 pub mod rng;
 pub mod settle;
+#[cfg(feature = "library")]
+pub mod settle_bench;
 pub mod shares;
 pub mod table;
 pub mod vectors;

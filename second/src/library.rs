@@ -17,6 +17,19 @@ pub struct Part {
     pub length: usize,
 }
 
+/// What a settlement gives: the counts, or a refusal with every count 0.
+#[repr(C)]
+#[derive(Clone, Copy, Debug, PartialEq, Eq)]
+pub struct Settled {
+    pub number: u32,
+    pub position: usize,
+    pub records: usize,
+    pub highest: u32,
+    pub undecided: u32,
+    pub written: usize,
+    pub equivocators: usize,
+}
+
 #[link(name = "exports", kind = "static")]
 extern "C" {
     fn record_box_check(n: u8, table: *const u8, table_length: usize) -> Answer;
@@ -36,10 +49,21 @@ extern "C" {
         author: u8,
         mark: u32,
     ) -> Answer;
+    fn record_box_settle(
+        n: u8,
+        table: *const u8,
+        table_length: usize,
+        cells: *mut u32,
+        cells_length: usize,
+        order: *mut u32,
+        order_length: usize,
+        taken: *mut u8,
+        taken_length: usize,
+    ) -> Settled;
 }
 
 // In each: the pointer and the length are a slice's, which is lent for the whole
-// call; the call only reads it and keeps no pointer.
+// call; the call keeps no pointer, and only reads the table.
 
 pub fn check(n: u8, table: &[u8]) -> Answer {
     // SAFETY: see above.
@@ -54,6 +78,29 @@ pub fn lookup(n: u8, table: &[u8], round: u32, author: u8, mark: u32) -> Part {
 pub fn lookup_answer(n: u8, table: &[u8], round: u32, author: u8, mark: u32) -> Answer {
     // SAFETY: see above.
     unsafe { record_box_lookup_answer(n, table.as_ptr(), table.len(), round, author, mark) }
+}
+
+pub fn settle(
+    n: u8,
+    table: &[u8],
+    cells: &mut [u32],
+    order: &mut [u32],
+    taken: &mut [u8],
+) -> Settled {
+    // SAFETY: see above; what is lent to be changed is lent to no one else.
+    unsafe {
+        record_box_settle(
+            n,
+            table.as_ptr(),
+            table.len(),
+            cells.as_mut_ptr(),
+            cells.len(),
+            order.as_mut_ptr(),
+            order.len(),
+            taken.as_mut_ptr(),
+            taken.len(),
+        )
+    }
 }
 
 /// How many bytes of stack a call takes, where it can be measured.

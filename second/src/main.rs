@@ -17,7 +17,7 @@ second vectors FOLDER                writes the stored tables of crates/vectors,
 second help                          prints this
 With the feature library, which .ci/library builds and runs:
 second compare --cases N --seed S    asks the proved code too, and counts where the answers differ
-second bench                         times of the proved check beside a plain one, and the stack of each call
+second bench                         times of the proved check beside a plain one, of the settlement, and the stack of each call
 second once proved|plain N RECORDS   one check of an honest full table, for whoever counts its instructions
 ";
 

@@ -5,7 +5,7 @@
 use crate::check::Refusal;
 use crate::record::{Name, ENTRIES, MOST_RECORDS, RECORD_BYTES};
 
-type Record = [u8; RECORD_BYTES];
+pub(crate) type Record = [u8; RECORD_BYTES];
 
 /// A call of its own, as the proved check is one.
 #[inline(never)]
@@ -102,12 +102,12 @@ fn stands(earlier: &[Record], name: Name) -> bool {
 // instructions.
 
 #[inline]
-fn same(a: Name, b: Name) -> bool {
+pub(crate) fn same(a: Name, b: Name) -> bool {
     a.round == b.round && a.author == b.author && a.mark == b.mark
 }
 
 #[inline]
-fn below(a: Name, b: Name) -> bool {
+pub(crate) fn below(a: Name, b: Name) -> bool {
     if a.round != b.round {
         return a.round < b.round;
     }
@@ -130,7 +130,7 @@ fn refs_of(record: &Record) -> [u32; ENTRIES] {
 }
 
 #[inline]
-fn name_of(record: &Record) -> Name {
+pub(crate) fn name_of(record: &Record) -> Name {
     Name {
         round: u32_at(record, 0),
         author: record[134],
@@ -144,6 +144,6 @@ fn u16_at(record: &Record, at: usize) -> u16 {
 }
 
 #[inline]
-fn u32_at(record: &Record, at: usize) -> u32 {
+pub(crate) fn u32_at(record: &Record, at: usize) -> u32 {
     u32::from_le_bytes([record[at], record[at + 1], record[at + 2], record[at + 3]])
 }

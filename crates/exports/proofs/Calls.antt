@@ -1,5 +1,5 @@
--- An export says what its call says. The numbers of `record_box_check` and `record_box_lookup_answer` fix the answer of the call, so nothing is lost in them;
--- place and length of `record_box_lookup` are those of the part that `table::lookup` hands back.
+-- An export says what its call says. The numbers of `record_box_check`, `record_box_lookup_answer` and `record_box_settle` fix the answer of the call, so nothing is lost
+-- in them; place and length of `record_box_lookup` are those of the part that `table::lookup` hands back.
 -- Assumes nothing.
 use mathlib.Core.Path.{_≡_, refl, sym, ap}
 use mathlib.Core.List.{List}
@@ -13,6 +13,8 @@ use Rattle.rules.specs.declared.Checked.{Checked}
 use Rattle.rules.specs.declared.Checked.the-variants.{Passed, Refused}
 use Rattle.rules.specs.declared.LookupAnswer.{LookupAnswer}
 use Rattle.rules.specs.declared.LookupAnswer.the-variants as answer
+use Rattle.rules.specs.declared.Outcome.{Outcome}
+use Rattle.rules.specs.declared.Outcome.the-variants as outcome
 use Rattle.rules.specs.Record.{first}
 use Rattle.rules.specs.Refusals.{numberOf}
 use Rattle.rules.specs.Lookup.{lookupBegin, lookupLength}
@@ -20,7 +22,8 @@ use Rattle.rules.proofs.Refusals.{refusal-unique}
 use Rattle.table.specs.Part.{PartOf}
 use Rattle.exports.specs.declared.Answer.{Answer}
 use Rattle.exports.specs.declared.Part.{Part}
-use Rattle.exports.specs.Answers.{refusalAs, checkedAs, lookupAs, partAs}
+use Rattle.exports.specs.declared.SettledNumbers.{SettledNumbers}
+use Rattle.exports.specs.Answers.{refusalAs, checkedAs, lookupAs, partAs, settledAs}
 
 -- no refusal has the number 0
 numbered-above : (r : Refusal) → numberOf r ≡ 0 → ⊥
@@ -51,6 +54,15 @@ answer-fixed answer.Found answer.Found e = refl
 answer-fixed answer.Found (answer.Refused s) e = absurd (numbered-above s (sym (ap (λ (a : Answer). a .number) e)))
 answer-fixed (answer.Refused r) answer.Found e = absurd (numbered-above r (ap (λ (a : Answer). a .number) e))
 answer-fixed (answer.Refused r) (answer.Refused s) e = ap answer.Refused (refusal-fixed r s e)
+
+pub settled-fixed : (o u : Outcome) → settledAs o ≡ settledAs u → o ≡ u
+settled-fixed (outcome.Settled c) (outcome.Settled d) e =
+    ap
+    outcome.Settled
+    (λ i. record { records = e i .records; highest = e i .highest; undecided = e i .undecided; written = e i .written; equivocators = e i .equivocators })
+settled-fixed (outcome.Settled c) (outcome.Refused s) e = absurd (numbered-above s (sym (ap (λ (a : SettledNumbers). a .number) e)))
+settled-fixed (outcome.Refused r) (outcome.Settled d) e = absurd (numbered-above r (ap (λ (a : SettledNumbers). a .number) e))
+settled-fixed (outcome.Refused r) (outcome.Refused s) e = ap outcome.Refused (refusal-unique r s (ap (λ (a : SettledNumbers). a .number) e) (ap (λ (a : SettledNumbers). a .position) e))
 
 -- r meets the promise of `table::lookup`, and p that of the export
 pub lookup-same : (n : ℕ) (t r : RefT (List ℕ)) (x : Name) (p : Part) → PartOf t r (lookupBegin first n (now t) x) (lookupLength first n (now t) x) → p ≡ partAs first n (now t) x → PartOf t r (p .begin) (p .length)

@@ -1,13 +1,21 @@
--- Each export has one result: any two results that meet its promise are equal. No export changes what it is lent.
+-- Each export has one result: any two results that meet its promise are equal. Only the settlement changes what it is lent,
+-- and what it leaves there is determined too.
 -- Assumes nothing.
+use Prim.Native.Nat.{ℕ}
 use mathlib.Core.Path.{_≡_, sym, _∙_}
+use mathlib.Core.List.{List}
+use Rattle.rules.specs.Settlement.{Buffers}
 use Rattle.record.proofs.Unique.{Only}
+use Rattle.exports.specs.declared.SettledNumbers.{SettledNumbers}
+use Rattle.exports.specs.Answers.{SettlesAs}
 use Rattle.exports.proofs.record_box_check.Kinds as check-kinds
 use Rattle.exports.proofs.record_box_check.Reads as check
 use Rattle.exports.proofs.record_box_lookup.Kinds as lookup-kinds
 use Rattle.exports.proofs.record_box_lookup.Reads as lookup
 use Rattle.exports.proofs.record_box_lookup_answer.Kinds as lookup-answer-kinds
 use Rattle.exports.proofs.record_box_lookup_answer.Reads as lookup-answer
+use Rattle.exports.proofs.record_box_settle.Kinds as settle-kinds
+use Rattle.exports.proofs.record_box_settle.Reads as settle
 
 pub check-unique : Only 1 check-kinds.ps check-kinds.r (λ κs x y. x ≡ y) check.Post
 check-unique κs a x y e f p q = p ∙ sym q
@@ -17,3 +25,12 @@ lookup-unique κs a x y e f p q = p ∙ sym q
 
 pub lookup-answer-unique : Only 1 lookup-answer-kinds.ps lookup-answer-kinds.r (λ κs x y. x ≡ y) lookup-answer.Post
 lookup-answer-unique κs a x y e f p q = p ∙ sym q
+
+-- the numbers of a settlement, whatever is held at the end
+pub settle-unique : Only 4 settle-kinds.ps settle-kinds.r (λ κs x y. x ≡ y) settle.Post
+settle-unique κs a x y e f p q = p .numbers ∙ sym (q .numbers)
+
+-- and with them the cells, the order places and the taken bytes
+module _ (n : ℕ) (t : List ℕ) (before : Buffers) (x y : SettledNumbers) (after other : Buffers) (p : SettlesAs n t before x after) (q : SettlesAs n t before y other) where
+  pub settled-unique : (x ≡ y) × (after ≡ other)
+  settled-unique = (p .numbers ∙ sym (q .numbers), λ i. record { cells = (p .cells ∙ sym (q .cells)) i; order = (p .order ∙ sym (q .order)) i; taken = (p .taken ∙ sym (q .taken)) i })

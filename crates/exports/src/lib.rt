@@ -6,10 +6,12 @@ ghost use Rattle.rules.specs.Refusals.{numberOf, positionOf};
 ghost use Rattle.rules.specs.Check.{check as checked};
 ghost use Rattle.rules.specs.Lookup.{lookupAnswer};
 ghost use Rattle.table.specs.Part.{named};
-ghost use Rattle.exports.specs.Answers.{refusalAs, checkedAs, lookupAs, partAs};
+ghost use Rattle.settlement.specs.Promise.{lent};
+ghost use Rattle.exports.specs.Answers.{refusalAs, checkedAs, lookupAs, partAs, settledAs, SettlesAs};
 use rules::Checked;
 use rules::LookupAnswer;
 use rules::Name;
+use rules::Outcome;
 use rules::Refusal;
 
 const RECORD: usize = 138;
@@ -26,6 +28,18 @@ pub struct Answer {
 pub struct Part {
     pub begin: usize,
     pub length: usize,
+}
+
+// What a settlement gives: number 0 and the counts, or a refusal's number and position with every count 0.
+#[repr(C)]
+pub struct SettledNumbers {
+    pub number: u32,
+    pub position: usize,
+    pub records: usize,
+    pub highest: u32,
+    pub undecided: u32,
+    pub written: usize,
+    pub equivocators: usize,
 }
 
 // ---- answers as numbers
@@ -101,6 +115,31 @@ fn lookup_as(a: LookupAnswer) -> Answer
     }
 }
 
+fn settled_as(o: Outcome) -> SettledNumbers
+    ensures { λ r. ⌜ r ≡ settledAs o ⌝ }
+{
+    match o {
+        Outcome::Settled(c) => SettledNumbers {
+            number: 0,
+            position: 0,
+            records: c.records,
+            highest: c.highest,
+            undecided: c.undecided,
+            written: c.written,
+            equivocators: c.equivocators,
+        },
+        Outcome::Refused(why) => SettledNumbers {
+            number: number_of(why),
+            position: position_of(why),
+            records: 0,
+            highest: 0,
+            undecided: 0,
+            written: 0,
+            equivocators: 0,
+        },
+    }
+}
+
 // ---- the exports
 
 // `table::check`. Number 0: the table passes.
@@ -161,4 +200,20 @@ pub extern "C" fn record_box_lookup_answer(
     ensures { λ r. ⌜ r ≡ lookupAs (lookupAnswer first n (now (table .entry)) (named round author mark)) ⌝ }
 {
     lookup_as(table::lookup_answer(n, table, round, author, mark))
+}
+
+// `settlement::settle`. Number 0: the table is settled. The three buffers hold what that call leaves in them.
+#[no_mangle]
+pub extern "C" fn record_box_settle(
+    n: u8,
+    table: &[u8],
+    cells: &mut [u32],
+    order: &mut [u32],
+    taken: &mut [u8],
+) -> SettledNumbers
+    ensures { λ r. ⌜ SettlesAs n (now (table .entry)) (lent (now (cells .entry)) (now (order .entry)) (now (taken .entry))) r (lent (now (cells .exit)) (now (order .exit)) (now (taken .exit))) ⌝ }
+{
+    let s = settlement::settle(n, table, cells, order, taken);
+    let o = s.outcome;
+    settled_as(o)
 }

@@ -36,12 +36,12 @@ module _ (t : List ℕ) (x : Name) (r : Rise t (records first t)) where
   abbrev m : ℕ
   m = placeOf t k x
 
-  falls : Falls (λ p. below (nameAt t p) x) k
+  pub falls : Falls (λ p. below (nameAt t p) x) k
   falls i j l h e = by-test (ltb i j)
       (λ b. failed _ (λ s. not-both (is-below _ _ (below-trans _ _ _ (r i j (ltb-true i j b) h) (below-is _ _ s))) e))
       (λ b. let q : i ≡ j = omega (arith, ltb-false i j b) in subst (λ o. below (nameAt t o) x ≡ false) q e)
 
-  place-first : First (λ p. not (below (nameAt t p) x)) k m
+  pub place-first : First (λ p. not (below (nameAt t p) x)) k m
   unfolding placeOf
   place-first = rw (halves-first (λ p. below (nameAt t p) x) k falls) (first-is _ k)
 
@@ -85,13 +85,14 @@ module _ (t : List ℕ) (x : Name) (r : Rise t (records first t)) where
       past : k ≤ m → findBelow t k x ≡ find (vertices first t) x
       past l = found-past t k x m refl l ∙ none (λ i h. before-place i (omega arith))
 
+-- the names of a table that passes rise
+pub rise-all : (n : ℕ) (t : List ℕ) → Accepted n (vertices first t) → Rise t (records first t)
+rise-all n t A i j l h =
+    let q : Below (nameOf (at (vertices first t) i)) (nameOf (at (vertices first t) j)) = rising A i j l (rw (vertices-length first t) h) in
+    rw (vertices-at first t i (omega arith), vertices-at first t j h) at q
+
 pub find-below : (n : ℕ) (t : List ℕ) (x : Name) → Accepted n (vertices first t) → findBelow t (records first t) x ≡ find (vertices first t) x
-find-below n t x A = find-rising t x rises
-  where
-    rises : Rise t (records first t)
-    rises i j l h =
-        let q : Below (nameOf (at (vertices first t) i)) (nameOf (at (vertices first t) j)) = rising A i j l (rw (vertices-length first t) h) in
-        rw (vertices-at first t i (omega arith), vertices-at first t j h) at q
+find-below n t x A = find-rising t x (rise-all n t A)
 
 -- ---- what the lookup answers
 

@@ -1,0 +1,11 @@
+pub mod Ranges
+pub mod Certified
+pub mod Tagging
+pub mod Commits
+pub mod Sweeps
+pub mod InCells
+pub mod Writing
+pub mod Counting
+pub mod Ordered
+pub mod Settled
+pub mod Unique

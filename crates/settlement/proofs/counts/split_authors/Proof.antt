@@ -1,0 +1,117 @@
+-- `settlement::counts::split_authors` meets its contract. The loop's invariant: the bytes tell of each author whether two neighbours among
+-- the first p records are of that author and of one round. The measure is the records that are left.
+-- Assumes nothing.
+use Prim.Native.Nat.{_+_, _-_, _≤_}
+use mathlib.Core.Path.{_≡_, sym, ap, _∙_}
+use mathlib.Core.Logic.{⊎-elim}
+use lib.ListN.{length, set}
+use Rattle.rules.specs.Record.{first, records, vertices, at}
+use Rattle.rules.proofs.Records.{vertices-length}
+use Rattle.rules.proofs.Accepted.{accepted}
+use Rattle.settlement.proofs.Counting.{splits, splits-start, splits-apart, splits-more, splits-end, author-byte, author-few}
+use native.Mathlib.Omega.{arith}
+use borrow.Author.Needs.{needs}
+use Rattle.settlement.proofs.counts.split_authors.Statement.{statement}
+use Rattle.settlement.proofs.counts.split_authors.Tie as tie
+
+abbrev Inv-loop : tie.InvT-loop
+Inv-loop n table split₀ k p₀ split p = (1 ≤ p) × (p - 1 ≤ k - 1) × (split ≡ splits (vertices first table) (p - 1))
+
+abbrev μ-loop : tie.MeasureT-loop
+μ-loop n table split₀ k p₀ split p = k - p
+
+loop-holds : tie.Need-loop-holds Inv-loop μ-loop
+loop-holds c = (omega arith, omega arith, splits-start (vertices first (c .before .args .table .now)))
+
+sub-twins : tie.Need-sub-twins Inv-loop μ-loop
+sub-twins c = search needs
+
+twins-requires : tie.Need-twins-requires Inv-loop μ-loop
+twins-requires c κs = search needs
+
+mul-byte-at : tie.Need-mul-byte-at Inv-loop μ-loop
+mul-byte-at c = search needs
+
+mul-byte-at-2 : tie.Need-mul-byte-at-2 Inv-loop μ-loop
+mul-byte-at-2 c = search needs
+
+add-byte-at : tie.Need-add-byte-at Inv-loop μ-loop
+add-byte-at c = search needs
+
+sub-byte-at : tie.Need-sub-byte-at Inv-loop μ-loop
+sub-byte-at c = search needs
+
+part-byte-at-start : tie.Need-part-byte-at-start Inv-loop μ-loop
+part-byte-at-start c = search needs
+
+part-byte-at-end : tie.Need-part-byte-at-end Inv-loop μ-loop
+part-byte-at-end c = search needs
+
+byte-at-requires : tie.Need-byte-at-requires Inv-loop μ-loop
+byte-at-requires c κs = search needs
+
+cast-a : tie.Need-cast-a Inv-loop μ-loop
+cast-a c = search needs
+
+array-write-split : tie.Need-array-write-split Inv-loop μ-loop
+array-write-split c =
+    let l = c .before .before .before .before .before in
+    let s = l .before .before in
+    author-few (s .args .n) (s .args .table .now) (l .loop .p) (c .byte-at .result) (s .pre) (omega arith) (c .byte-at .ensures)
+
+add-p : tie.Need-add-p Inv-loop μ-loop
+add-p c = search needs
+
+loop-less : tie.Need-loop-less Inv-loop μ-loop
+loop-less c = search needs
+
+loop-again : tie.Need-loop-again Inv-loop μ-loop
+loop-again c =
+    let l = c .before .before .before in
+    let s = l .before .before in
+    let t = s .args .table .now in
+    let vs = vertices first t in
+    let p = l .loop .p in
+    let told = c .before .twins .ensures in
+    let more : c .if1 .split ≡ splits vs (p + 1 - 1) =
+    ⊎-elim
+    (λ w.
+    let a = w .2 .result in
+    w .3 ∙ ap (λ b. set b a 1) (l .loop .inv .2)
+    ∙ splits-more vs p (omega arith) a (sym told ∙ w .0 .taken) (author-byte t p a (omega arith) (w .2 .ensures)) (author-few (s .args .n) t p a (s .pre) (omega arith) (w .2 .ensures)))
+    (λ w. w .1 ∙ l .loop .inv .2 ∙ splits-apart vs p (omega arith) (sym told ∙ w .0 .left))
+    (c .if1 .came)
+    in
+    (omega arith, omega arith, more)
+
+returns : tie.Need-returns Inv-loop μ-loop
+returns c =
+    let l = c .before in
+    let s = l .before .before in
+    let t = s .args .table .now in
+    let vs = vertices first t in
+    let e : l .loop .p - 1 ≡ length vs - 1 = rw (vertices-length first t) (omega arith) in
+    rw e at (l .loop .inv .2) ∙ splits-end (accepted first (s .args .n) t (s .pre))
+
+pub split-authors-spec : {M : Type 1} → statement M
+split-authors-spec =
+    tie.close
+    (tie.spec
+    Inv-loop
+    μ-loop
+    loop-holds
+    sub-twins
+    twins-requires
+    mul-byte-at
+    mul-byte-at-2
+    add-byte-at
+    sub-byte-at
+    part-byte-at-start
+    part-byte-at-end
+    byte-at-requires
+    cast-a
+    array-write-split
+    add-p
+    loop-less
+    loop-again
+    returns)

@@ -1,0 +1,186 @@
+-- `settlement::order::write_order` meets its contract. The loop's invariant: the slots before s are gone through, and what is written then is
+-- in the places, the bytes and the count. The measure is the slots that are left.
+-- Assumes nothing.
+use Prim.Native.Nat.{_-_, _≤_}
+use mathlib.Core.Path.{_≡_, sym, ap, _∙_}
+use mathlib.Core.Logic.{⊎-elim}
+use lib.ListN.{length, getD}
+use Rattle.folds.specs.Folds.{countTo}
+use Rattle.rules.specs.Record.{first, records, vertices}
+use Rattle.rules.proofs.Records.{vertices-length}
+use Rattle.rules.proofs.Accepted.{accepted}
+use Rattle.settlement.specs.Write.{bytesOver, written}
+use Rattle.settlement.proofs.Writing.{over-at, over-length}
+use Rattle.settlement.proofs.Ordered.{Upto, upto-start, upto-told, upto-count, upto-skip, upto-commit, upto-stop, upto-end, cell-undecided, cell-skipped, cell-leader}
+use native.Mathlib.Omega.{arith}
+use borrow.Author.Needs.{needs}
+use Rattle.settlement.proofs.order.write_order.Statement.{statement}
+use Rattle.settlement.proofs.order.write_order.Tie as tie
+
+abbrev Inv-loop : tie.InvT-loop
+Inv-loop n table top cells order₀ taken₀ count₀ s₀ order taken count s = (s ≤ top) × Upto n (vertices first table) order₀ taken₀ s count order taken
+
+abbrev μ-loop : tie.MeasureT-loop
+μ-loop n table top cells order₀ taken₀ count₀ s₀ order taken count s = top - s
+
+clear-requires : tie.Need-clear-requires Inv-loop μ-loop
+clear-requires c κs = search needs
+
+loop-holds : tie.Need-loop-holds Inv-loop μ-loop
+loop-holds c =
+    let k = c .before .before in
+    let g = k .before .before .before .before .before .before in
+    let t = g .args .table .now in
+    let m = k .clear .last .0 in
+    let m₀ = g .args .taken .now in
+    let long = vertices-length first t in
+    let cleared : m ≡ bytesOver (λ q. 0) (length (vertices first t)) m₀ = rw long (k .clear .ensures) in
+    let wide : length (vertices first t) ≤ length m₀ = rw long (omega arith) in
+    let kept : length m ≡ length m₀ = ap length cleared ∙ over-length _ (length (vertices first t)) m₀ wide in
+    (omega arith, upto-start (g .args .n) (vertices first t) (g .args .order .now) m (omega arith) (λ q lq. ap (λ b. getD b q 0) cleared ∙ over-at (λ i. 0) (length (vertices first t)) m₀ q lq))
+
+mul-c : tie.Need-mul-c Inv-loop μ-loop
+mul-c c = search needs
+
+shared-slice-read-c : tie.Need-shared-slice-read-c Inv-loop μ-loop
+shared-slice-read-c c = search needs
+
+same-length : tie.Need-same-length Inv-loop μ-loop
+same-length c = search needs
+
+same-length-2 : tie.Need-same-length-2 Inv-loop μ-loop
+same-length-2 c = search needs
+
+returns : tie.Need-returns Inv-loop μ-loop
+returns c =
+    let l = c .before .before .before in
+    let k = l .before .before .before in
+    let g = k .before .before .before .before .before .before in
+    let t = g .args .table .now in
+    let m = k .clear .last .0 in
+    let m₀ = g .args .taken .now in
+    let n = g .args .n in
+    let long = vertices-length first t in
+    let U = l .loop .inv .1 in
+    let A = accepted first n t (g .pre .0) in
+    let cleared : m ≡ bytesOver (λ q. 0) (length (vertices first t)) m₀ = rw long (k .clear .ensures) in
+    let wide : length (vertices first t) ≤ length (g .args .order .now) = rw long (omega arith) in
+    let wide₀ : length (vertices first t) ≤ length m₀ = rw long (omega arith) in
+    let kept : length m ≡ length m₀ = ap length cleared ∙ over-length _ (length (vertices first t)) m₀ wide₀ in
+    let room : length (vertices first t) ≤ length m = omega arith in
+    let d = cell-undecided _ (sym (g .pre .1 .1 .1 .0 (l .loop .s) (omega arith)) ∙ c .if1 .taken) in
+    let E = upto-stop cleared U (omega arith) d in
+    (E .places, (E .bytes, E .counted))
+
+cast-write-leader : tie.Need-cast-write-leader Inv-loop μ-loop
+cast-write-leader c =
+    let l = c .before .before .before .before in
+    omega (arith, c .before .before .shared-slice-known3 .given (l .loop .s))
+
+sub-write-leader : tie.Need-sub-write-leader Inv-loop μ-loop
+sub-write-leader c = search needs
+
+write-leader-requires : tie.Need-write-leader-requires Inv-loop μ-loop
+write-leader-requires c κs =
+    let l = c .before .before .before .before .before .before in
+    let k = l .before .before .before in
+    let g = k .before .before .before .before .before .before in
+    let t = g .args .table .now in
+    let m = k .clear .last .0 in
+    let m₀ = g .args .taken .now in
+    let n = g .args .n in
+    let long = vertices-length first t in
+    let U = l .loop .inv .1 in
+    let A = accepted first n t (g .pre .0) in
+    let cleared : m ≡ bytesOver (λ q. 0) (length (vertices first t)) m₀ = rw long (k .clear .ensures) in
+    let wide : length (vertices first t) ≤ length (g .args .order .now) = rw long (omega arith) in
+    let wide₀ : length (vertices first t) ≤ length m₀ = rw long (omega arith) in
+    let kept : length m ≡ length m₀ = ap length cleared ∙ over-length _ (length (vertices first t)) m₀ wide₀ in
+    let room : length (vertices first t) ≤ length m = omega arith in
+    let x = c .before .before in
+    let led = cell-leader A (l .loop .s) _ (g .pre .1 .1 .1 .0 (l .loop .s) (omega arith)) (x .before .if1 .left) (x .if2 .taken) in
+    let count : l .loop .count ≡ countTo (written (l .loop .taken)) (records first t) = rw (← long) (upto-count A room wide U) in
+    let room′ : records first t ≤ length (l .loop .taken) = omega arith in
+    let wide′ : records first t ≤ length (l .loop .order) = omega arith in
+    (g .pre .0, (omega (arith, led .1), (wide′, (room′, (upto-told A room wide U, count)))))
+
+add-s : tie.Need-add-s Inv-loop μ-loop
+add-s c = search needs
+
+loop-less : tie.Need-loop-less Inv-loop μ-loop
+loop-less c = search needs
+
+loop-again : tie.Need-loop-again Inv-loop μ-loop
+loop-again c =
+    let l = c .before .before .before .before in
+    let k = l .before .before .before in
+    let g = k .before .before .before .before .before .before in
+    let t = g .args .table .now in
+    let m = k .clear .last .0 in
+    let m₀ = g .args .taken .now in
+    let n = g .args .n in
+    let long = vertices-length first t in
+    let U = l .loop .inv .1 in
+    let A = accepted first n t (g .pre .0) in
+    let cleared : m ≡ bytesOver (λ q. 0) (length (vertices first t)) m₀ = rw long (k .clear .ensures) in
+    let wide : length (vertices first t) ≤ length (g .args .order .now) = rw long (omega arith) in
+    let wide₀ : length (vertices first t) ≤ length m₀ = rw long (omega arith) in
+    let kept : length m ≡ length m₀ = ap length cleared ∙ over-length _ (length (vertices first t)) m₀ wide₀ in
+    let room : length (vertices first t) ≤ length m = omega arith in
+    let j = l .loop .s in
+    let holds = g .pre .1 .1 .1 .0 j (omega arith) in
+    ⊎-elim
+    (λ x.
+    let led = cell-leader A j _ holds (c .before .if1 .left) (x .0 .taken) in
+    (omega arith, rw (x .8, x .9, x .10) (upto-commit A room wide U (getD (g .args .cells .now) j 0 - 2) (led .1) (omega arith) (led .0) (x .3 .result) (x .3 .last .1 .1 .1 .0) (x .3 .last .1 .1 .1 .1 .0) (x .3 .ensures))))
+    (λ x. (omega arith, rw (x .1, x .2, x .3) (upto-skip A room wide U (omega arith) (cell-skipped _ (sym holds ∙ x .0 .left)))))
+    (c .if2 .came)
+
+same-length-3 : tie.Need-same-length-3 Inv-loop μ-loop
+same-length-3 c = search needs
+
+same-length-4 : tie.Need-same-length-4 Inv-loop μ-loop
+same-length-4 c = search needs
+
+returns-2 : tie.Need-returns-2 Inv-loop μ-loop
+returns-2 c =
+    let l = c .before in
+    let k = l .before .before .before in
+    let g = k .before .before .before .before .before .before in
+    let t = g .args .table .now in
+    let m = k .clear .last .0 in
+    let m₀ = g .args .taken .now in
+    let n = g .args .n in
+    let long = vertices-length first t in
+    let U = l .loop .inv .1 in
+    let A = accepted first n t (g .pre .0) in
+    let cleared : m ≡ bytesOver (λ q. 0) (length (vertices first t)) m₀ = rw long (k .clear .ensures) in
+    let wide : length (vertices first t) ≤ length (g .args .order .now) = rw long (omega arith) in
+    let wide₀ : length (vertices first t) ≤ length m₀ = rw long (omega arith) in
+    let kept : length m ≡ length m₀ = ap length cleared ∙ over-length _ (length (vertices first t)) m₀ wide₀ in
+    let room : length (vertices first t) ≤ length m = omega arith in
+    let E = upto-end cleared U (omega arith) in
+    (E .places, (E .bytes, E .counted))
+
+pub write-order-spec : {M : Type 1} → statement M
+write-order-spec =
+    tie.close
+    (tie.spec
+    Inv-loop
+    μ-loop
+    clear-requires
+    loop-holds
+    mul-c
+    shared-slice-read-c
+    same-length
+    same-length-2
+    returns
+    cast-write-leader
+    sub-write-leader
+    write-leader-requires
+    add-s
+    loop-less
+    loop-again
+    same-length-3
+    same-length-4
+    returns-2)

@@ -1,0 +1,7 @@
+pub mod Range
+pub mod Certify
+pub mod Work
+pub mod Sweep
+pub mod Cells
+pub mod Write
+pub mod Promise

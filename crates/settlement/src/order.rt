@@ -1,0 +1,168 @@
+// The written order, and the taken bytes: 1 written, 2 to be written next, 0 neither.
+ghost use mathlib.Core.Path.{_≡_};
+ghost use mathlib.Core.Bool.{cond};
+ghost use Prim.Native.Nat.{ℕ, _+_, _<_, _≤_};
+ghost use lib.ListN.{length, getD};
+ghost use Rattle.folds.specs.Folds.{countTo, filterTo};
+ghost use Rattle.rules.specs.declared.Checked.the-variants.{Passed};
+ghost use Rattle.rules.specs.Record.{first, records, vertices};
+ghost use Rattle.rules.specs.Check.{check};
+ghost use Rattle.rules.specs.Decision.{cell};
+ghost use Rattle.rules.specs.Decide.{document01, highest, decisions, decisionAt};
+ghost use Rattle.rules.specs.Order.{order as orderOf};
+ghost use Rattle.rules.specs.Settlement.{writtenOver, takenBytes};
+ghost use Rattle.settlement.specs.Write.{bytesOver, placesOver, written, due, Told, MarkedOne, MarkedMore, MarkedDown, Led};
+use crate::range::RECORD;
+use rules::Name;
+use table::find;
+
+// The first k bytes are 0, the rest is kept.
+fn clear(taken: &mut [u8], k: usize)
+    requires { ⌜ k ≤ length (now taken) ⌝ }
+    ensures { λ r. ⌜ now (taken .exit) ≡ bytesOver (λ q. 0) k (now (taken .entry)) ⌝ }
+{
+    let mut q: usize = 0;
+    while q < k {
+        taken[q] = 0;
+        q += 1;
+    }
+}
+
+// A position is marked unless it is written or marked already. Answers it if it is marked here and lower than `low`, and else `low`.
+fn mark_one(q: usize, low: usize, taken: &mut [u8]) -> usize
+    requires { ⌜ q < length (now taken) ⌝ }
+    ensures { λ r. ⌜ MarkedOne q low (now (taken .entry)) r (now (taken .exit)) ⌝ }
+{
+    if taken[q] != 0 {
+        return low;
+    }
+    taken[q] = 2;
+    if q < low { q } else { low }
+}
+
+// What the vertex at p references is to be written, unless it is written or marked already. Answers the lowest position marked here, or
+// `low` if that is lower.
+fn mark_more(n: u8, table: &[u8], p: usize, low: usize, taken: &mut [u8]) -> usize
+    requires { ⌜ check first n (now table) ≡ Passed ⌝ }
+    requires { ⌜ p < records first (now table) ⌝ }
+    requires { ⌜ records first (now table) ≤ length (now taken) ⌝ }
+    ensures { λ r. ⌜ MarkedMore (vertices first (now (table .entry))) p low (now (taken .entry)) r (now (taken .exit)) ⌝ }
+{
+    let v = record::decode(&table[RECORD * p..RECORD * p + RECORD]);
+    let refs = v.refs;
+    let k = n as usize;
+    let mut lowest = low;
+    let mut i: usize = 0;
+    while i < k {
+        let mark = refs[i];
+        if mark != 0 {
+            let x = Name {
+                round: v.round - 1,
+                author: i as u8,
+                mark,
+            };
+            lowest = mark_one(find(table, p, x), lowest, taken);
+        }
+        i += 1;
+    }
+    lowest
+}
+
+// What is to be written for the leader vertex at a is marked, from it downward, as far as anything is marked. Answers how far.
+fn mark_down(n: u8, table: &[u8], a: usize, taken: &mut [u8]) -> usize
+    requires { ⌜ check first n (now table) ≡ Passed ⌝ }
+    requires { ⌜ a < records first (now table) ⌝ }
+    requires { ⌜ records first (now table) ≤ length (now taken) ⌝ }
+    requires { ⌜ Told (vertices first (now table)) (now taken) ⌝ }
+    ensures { λ r. ⌜ MarkedDown (vertices first (now (table .entry))) a (now (taken .entry)) r (now (taken .exit)) ⌝ }
+{
+    let mut low = mark_one(a, a, taken);
+    let mut p = a + 1;
+    while low < p {
+        p -= 1;
+        if taken[p] == 2 {
+            low = mark_more(n, table, p, low, taken);
+        }
+    }
+    low
+}
+
+// What is marked from `low` up to a is written, in table order, from place `count` on. Answers the count then.
+fn write_marked(a: usize, low: usize, order: &mut [u32], taken: &mut [u8], count: usize) -> usize
+    requires { ⌜ a < 4096 ⌝ }
+    requires { ⌜ a < length (now taken) ⌝ }
+    requires { ⌜ low ≤ a ⌝ }
+    requires { ⌜ ((q : ℕ) → q < low → getD (now taken) q 0 ≡ 2 → ⊥) ⌝ }
+    requires { ⌜ count + countTo (due (now taken)) (a + 1) ≤ length (now order) ⌝ }
+    ensures { λ r. ⌜ now (order .exit) ≡ placesOver count (filterTo (due (now (taken .entry))) (a + 1)) (now (order .entry)) ⌝ }
+    ensures { λ r. ⌜ now (taken .exit) ≡ bytesOver (λ q. cond (due (now (taken .entry)) q) 1 (getD (now (taken .entry)) q 0)) (a + 1) (now (taken .entry)) ⌝ }
+    ensures { λ r. ⌜ r ≡ count + countTo (due (now (taken .entry))) (a + 1) ⌝ }
+{
+    let mut c = count;
+    let mut p = low;
+    while p <= a {
+        if taken[p] == 2 {
+            taken[p] = 1;
+            order[c] = p as u32;
+            c += 1;
+        }
+        p += 1;
+    }
+    c
+}
+
+// One committed leader vertex more.
+fn write_leader(
+    n: u8,
+    table: &[u8],
+    a: usize,
+    order: &mut [u32],
+    taken: &mut [u8],
+    count: usize,
+) -> usize
+    requires { ⌜ check first n (now table) ≡ Passed ⌝ }
+    requires { ⌜ a < records first (now table) ⌝ }
+    requires { ⌜ records first (now table) ≤ length (now order) ⌝ }
+    requires { ⌜ records first (now table) ≤ length (now taken) ⌝ }
+    requires { ⌜ Told (vertices first (now table)) (now taken) ⌝ }
+    requires { ⌜ count ≡ countTo (written (now taken)) (records first (now table)) ⌝ }
+    ensures { λ r. ⌜ Led (vertices first (now (table .entry))) a count (now (order .entry)) (now (taken .entry)) r (now (order .exit)) (now (taken .exit)) ⌝ }
+{
+    let low = mark_down(n, table, a, taken);
+    write_marked(a, low, order, taken, count)
+}
+
+// The rounds before the first undecided one. Answers how many are written.
+pub(crate) fn write_order(
+    n: u8,
+    table: &[u8],
+    top: usize,
+    cells: &[u32],
+    order: &mut [u32],
+    taken: &mut [u8],
+) -> usize
+    requires { ⌜ check first n (now table) ≡ Passed ⌝ }
+    requires { ⌜ top ≡ highest (vertices first (now table)) ⌝ }
+    requires { ⌜ top ≤ length (now cells) ⌝ }
+    requires { ⌜ ((t : ℕ) → t < top → getD (now cells) t 0 ≡ cell (decisionAt (decisions (document01 n) n (vertices first (now table))) t)) ⌝ }
+    requires { ⌜ records first (now table) ≤ length (now order) ⌝ }
+    requires { ⌜ records first (now table) ≤ length (now taken) ⌝ }
+    ensures { λ r. ⌜ now (order .exit) ≡ writtenOver (orderOf (document01 n) n (vertices first (now (table .entry)))) (now (order .entry)) ⌝ }
+    ensures { λ r. ⌜ now (taken .exit) ≡ writtenOver (takenBytes (orderOf (document01 n) n (vertices first (now (table .entry)))) (length (vertices first (now (table .entry))))) (now (taken .entry)) ⌝ }
+    ensures { λ r. ⌜ r ≡ length (orderOf (document01 n) n (vertices first (now (table .entry)))) ⌝ }
+{
+    clear(taken, table.len() / RECORD);
+    let mut count: usize = 0;
+    let mut s: usize = 0;
+    while s < top {
+        let c = cells[s];
+        if c == 0 {
+            return count;
+        }
+        if c != 1 {
+            count = write_leader(n, table, c as usize - 2, order, taken, count);
+        }
+        s += 1;
+    }
+    count
+}

@@ -99,4 +99,4 @@ fills-as e p = rw (← e) p
 
 -- no bytes
 pub fills-none : {bytes : List ℕ} (old : List ℕ) → [] ≡ bytes → Fills bytes old old 0
-fills-none old e = rw (← e) (fills-so [] old old 0 refl (omega arith) refl)
+fills-none old e = rw (← e) (fills-so [] old old 0 (omega arith) refl (omega arith) refl)

@@ -1,7 +1,7 @@
 -- The test of which name is below, part by part; the name of the record at a position; and check 6 by the names of two records.
 -- Assumes nothing.
 use Prim.Native.Nat.{ℕ, pred, _+_, _-_, _*_, _<_}
-use mathlib.Core.Path.{_≡_, refl}
+use mathlib.Core.Path.{_≡_, refl, ap}
 use mathlib.Core.Bool.{Bool, true, false, not}
 use mathlib.Core.List.{List}
 use native.Mathlib.Omega.{arith}
@@ -11,7 +11,7 @@ use borrow.Author.Tests.{eq-eqb, ne-eqb, lt-ltb, le-ltb}
 use Rattle.folds.specs.Folds.{_and_, _or_}
 use Rattle.rules.specs.declared.Name.{Name}
 use Rattle.rules.specs.declared.Vertex.{Vertex}
-use Rattle.rules.specs.Record.{first, recordAt, records, vertices, below}
+use Rattle.rules.specs.Record.{first, recordAt, records, vertices, at, nameOf, below}
 use Rattle.rules.specs.Check.{notAbove}
 use Rattle.rules.proofs.Records.{vertices-at}
 use Rattle.table.specs.Search.{nameAt}
@@ -47,6 +47,9 @@ lent t p = take (138 * p + 138 - 138 * p) (drop (138 * p) t)
 pub record-part : (t : List ℕ) (p : ℕ) → lent t p ≡ recordAt first t p
 unfolding recordAt
 record-part t p = own-bytes (drop (138 * p) t) p
+
+pub name-at : (t : List ℕ) (p : ℕ) → p < records first t → nameOf (at (vertices first t) p) ≡ nameAt t p
+name-at t p l = ap nameOf (vertices-at first t p l)
 
 -- ---- check 6
 

@@ -455,6 +455,14 @@ fn over(most: usize, table: &[u8], rng: &mut Rng) -> Vec<u8> {
     filler.iter().copied().cycle().take(most + by).collect()
 }
 
+/// An honest full table of exactly this many records.
+pub fn honest(n: u8, records: usize) -> Vec<u8> {
+    let mut plan = Plan::full(n, 1_400);
+    plan.most_records = records;
+    let vertices = grow(&plan, &mut Rng::new(1));
+    bytes(&self::records(&vertices))
+}
+
 /// Lent memory for a settlement, with some contents.
 #[derive(Clone, Debug, PartialEq, Eq)]
 pub struct Lent {

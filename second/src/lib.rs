@@ -4,15 +4,26 @@
 //! `authors`, `record`, `check`, `table`, `decide`, `settle` and `program` are the
 //! rules; `rng`, `grow`, `damage`, `generate` and `shares` make random tables and
 //! show what these reach; `vectors` makes the stored tables of the crate of that name.
+//! With the feature `library`, `library` calls the proved code, `compare` asks both, and
+//! `bench` measures the proved code against `plain`.
 
-#![forbid(unsafe_code)]
+#![cfg_attr(not(feature = "library"), forbid(unsafe_code))]
+#![deny(unsafe_code)]
 
 pub mod authors;
+#[cfg(feature = "library")]
+pub mod bench;
 pub mod check;
+#[cfg(feature = "library")]
+pub mod compare;
 pub mod damage;
 pub mod decide;
 pub mod generate;
 pub mod grow;
+#[cfg(feature = "library")]
+#[allow(unsafe_code)]
+pub mod library;
+pub mod plain;
 pub mod program;
 pub mod record;
 pub mod rng;

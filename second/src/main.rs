@@ -1,4 +1,5 @@
-//! The binary: the program of document 01, and the generator's sub-commands.
+//! The binary: the program of document 01, the generator's sub-commands, and those
+//! that ask the proved code.
 
 use second::generate::{input, Kind};
 use second::program::run;
@@ -14,14 +15,30 @@ second generate --kind NAME --seed S writes an input of the program
 second shares --cases N --seed S     counts what generated tables reach
 second vectors FOLDER                writes the stored tables of crates/vectors, their names and answers
 second help                          prints this
+With the feature library, which .ci/library builds and runs:
+second compare --cases N --seed S    asks the proved code too, and counts where the answers differ
+second bench                         times of the proved check beside a plain one, and the stack of each call
+second once proved|plain N RECORDS   one check of an honest full table, for whoever counts its instructions
 ";
+
+/// What goes to standard output, and the exit status.
+struct Output {
+    bytes: Vec<u8>,
+    status: u8,
+}
+
+impl Output {
+    fn of(bytes: Vec<u8>) -> Output {
+        Output { bytes, status: 0 }
+    }
+}
 
 fn main() -> ExitCode {
     let arguments: Vec<String> = std::env::args().skip(1).collect();
     let words: Vec<&str> = arguments.iter().map(String::as_str).collect();
     match answer(&words) {
-        Ok(bytes) => match std::io::stdout().write_all(&bytes) {
-            Ok(()) => ExitCode::SUCCESS,
+        Ok(output) => match std::io::stdout().write_all(&output.bytes) {
+            Ok(()) => ExitCode::from(output.status),
             Err(error) => fail(&error.to_string(), 1),
         },
         Err(message) => fail(&message, 2),
@@ -33,31 +50,87 @@ fn fail(message: &str, status: u8) -> ExitCode {
     ExitCode::from(status)
 }
 
-/// What goes to standard output, or what is wrong with the arguments.
-fn answer(words: &[&str]) -> Result<Vec<u8>, String> {
+/// What is printed, or what is wrong with the arguments.
+fn answer(words: &[&str]) -> Result<Output, String> {
     match words {
         ["settle"] => {
             let mut read = Vec::new();
             let mut standard_input = std::io::stdin().lock();
             match standard_input.read_to_end(&mut read) {
-                Ok(_) => Ok(run(&read)),
+                Ok(_) => Ok(Output::of(run(&read))),
                 Err(error) => Err(error.to_string()),
             }
         }
         ["generate", "--kind", name, "--seed", seed] => {
             let kind = Kind::from_name(name).ok_or_else(|| no_kind(name))?;
-            Ok(input(kind, number(seed)?))
+            Ok(Output::of(input(kind, number(seed)?)))
         }
         ["shares", "--cases", cases, "--seed", seed] => {
             let shares = shares(number(cases)?, number(seed)?);
-            Ok(shares.to_string().into_bytes())
+            Ok(Output::of(shares.to_string().into_bytes()))
         }
         ["vectors", folder] => match vectors::write(Path::new(folder)) {
-            Ok(files) => Ok(format!("{files} files\n").into_bytes()),
+            Ok(files) => Ok(Output::of(format!("{files} files\n").into_bytes())),
             Err(error) => Err(format!("{folder}: {error}")),
         },
-        ["help"] => Ok(help().into_bytes()),
+        ["compare", "--cases", cases, "--seed", seed] => {
+            linked::compare(number(cases)?, number(seed)?)
+        }
+        ["bench"] => linked::bench(),
+        ["once", by, n, records] => linked::once(by, number(n)?, number(records)?),
+        ["help"] => Ok(Output::of(help().into_bytes())),
         _ => Err(format!("unknown arguments\n{HELP}")),
+    }
+}
+
+/// The sub-commands that ask the proved code.
+#[cfg(feature = "library")]
+mod linked {
+    use crate::Output;
+
+    /// Status 1 on a difference.
+    pub fn compare(cases: u64, seed: u64) -> Result<Output, String> {
+        let comparison = second::compare::compare(cases, seed);
+        Ok(Output {
+            bytes: comparison.to_string().into_bytes(),
+            status: u8::from(comparison.differed() > 0),
+        })
+    }
+
+    /// Status 1 if the checks that are timed do not answer the same.
+    pub fn bench() -> Result<Output, String> {
+        let bench = second::bench::bench();
+        Ok(Output {
+            bytes: bench.to_string().into_bytes(),
+            status: u8::from(bench.differed()),
+        })
+    }
+
+    pub fn once(by: &str, n: u64, records: u64) -> Result<Output, String> {
+        let n = u8::try_from(n).map_err(|_| format!("not an author count: {n}"))?;
+        match second::bench::once(by, n, records as usize) {
+            Some(passed) => Ok(Output::of(format!("passed: {passed}\n").into_bytes())),
+            None => Err(format!("no check {by}")),
+        }
+    }
+}
+
+#[cfg(not(feature = "library"))]
+mod linked {
+    use crate::Output;
+
+    const WITHOUT: &str = "built without the library; .ci/library builds and runs it with";
+
+    pub fn compare(_cases: u64, _seed: u64) -> Result<Output, String> {
+        Err(WITHOUT.to_string())
+    }
+
+    pub fn bench() -> Result<Output, String> {
+        Err(WITHOUT.to_string())
+    }
+
+    pub fn once(_by: &str, _n: u64, _records: u64) -> Result<Output, String> {
+        Err(WITHOUT.to_string())
     }
 }
 

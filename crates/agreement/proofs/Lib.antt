@@ -7,3 +7,4 @@ pub mod Agreement
 pub mod Shown
 pub mod Growth
 pub mod Settled
+pub mod Lent

@@ -63,6 +63,10 @@ last-word l e p = rw e p
 
 -- ---- the buffer
 
+-- what is filled by a line with a piece more is filled by its text and that piece
+pub filled-by : {l m : Line} {w old new : List ℕ} {r : ℕ} → Grown l w m → Fills (textOf m) old new r → Fills (textOf l ++ w) old new r
+filled-by p q = rw (p .text) at q
+
 -- one byte more is copied
 pub copy-next : (b d : List ℕ) (i : ℕ) → i < length b → i < length d → set (take i b ++ drop i d) i (getD b i 0) ≡ take (i + 1) b ++ drop (i + 1) d
 copy-next b d i h k =

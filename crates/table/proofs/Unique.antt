@@ -4,10 +4,10 @@
 use mathlib.Core.Path.{_≡_, sym, _∙_}
 use mathlib.Core.List.{List}
 use Prim.Native.Nat.{ℕ}
-use contract.Lifetimes.{Lfts}
 use denote.Ref.{RefT, ptr, now}
-use denote.Triple.Clauses.{AtExit}
-use borrow.Fn.Kinds.{PK, RK, Out, Dens, resT, endedOf}
+use Rattle.record.proofs.Unique.{Only}
+use Rattle.table.proofs.place.Kinds as place-kinds
+use Rattle.table.proofs.place.Reads as place
 use Rattle.table.proofs.find.Kinds as find-kinds
 use Rattle.table.proofs.find.Reads as find
 use Rattle.table.proofs.check.Kinds as check-kinds
@@ -17,9 +17,8 @@ use Rattle.table.proofs.lookup.Reads as lookup
 use Rattle.table.proofs.lookup_answer.Kinds as lookup-answer-kinds
 use Rattle.table.proofs.lookup_answer.Reads as lookup-answer
 
--- Two results that meet a promise, at the same arguments, are the same in the sense of S.
-abbrev pub Only : (n : ℕ) (ps : List (PK n)) (r : RK n) → ((κs : Lfts n) → resT r κs .Denot → resT r κs .Denot → Type 0) → Out n ps r → Type 0
-Only n ps r S promise = (κs : Lfts n) (a : Dens κs ps) (x y : resT r κs .Denot) (e f : AtExit (endedOf n ps r) κs) → promise κs a x e → promise κs a y f → S κs x y
+pub place-unique : Only 1 place-kinds.ps place-kinds.r (λ κs x y. x ≡ y) place.Post
+place-unique κs a x y e f p q = p ∙ sym q
 
 pub find-unique : Only 1 find-kinds.ps find-kinds.r (λ κs x y. x ≡ y) find.Post
 find-unique κs a x y e f p q = p ∙ sym q

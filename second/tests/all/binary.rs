@@ -63,3 +63,16 @@ fn unknown_arguments_are_told() {
         assert!(!output.stderr.is_empty());
     }
 }
+
+/// A binary that does not have the proved code says so.
+#[cfg(not(feature = "library"))]
+#[test]
+fn without_the_library_is_told() {
+    for arguments in [&["compare", "--cases", "1", "--seed", "1"][..], &["bench"]] {
+        let output = second(arguments, &[]);
+        assert_eq!(output.status.code(), Some(2), "{arguments:?}");
+        assert!(output.stdout.is_empty());
+        let told = String::from_utf8_lossy(&output.stderr);
+        assert!(told.contains("built without the library"), "{told}");
+    }
+}

@@ -7,6 +7,7 @@ mod examples;
 mod generated;
 mod made;
 mod past_f;
+mod plain;
 mod refusals;
 mod sizes;
 mod vectors;

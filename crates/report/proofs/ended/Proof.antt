@@ -1,5 +1,6 @@
 -- `report::ended` meets its contract: the end of the line is one piece more.
 -- Assumes nothing.
+use Rattle.report.proofs.Text.{filled-by}
 use borrow.Author.Needs.{needs}
 use Rattle.report.proofs.ended.Statement.{statement}
 use Rattle.report.proofs.ended.Tie as tie
@@ -19,7 +20,7 @@ same-length c = search needs
 returns : tie.Need-returns
 returns c =
     let f = c .before .before in
-    rw (f .before .before .with-bytes .ensures .text) at (f .fill .ensures)
+    filled-by (f .before .before .with-bytes .ensures) (f .fill .ensures)
 
 pub ended-spec : {M : Type 1} → statement M
 ended-spec =

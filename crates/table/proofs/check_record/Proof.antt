@@ -53,66 +53,131 @@ returns : tie.Need-returns
 returns c =
     let d = c .before .before in
     let s = d .before .before .before .before .before in
-    let t = s .args .table .now in
-    sym (refused-4 (s .args .n) t (s .args .p) (omega arith) (d .decode .result) (d .decode .ensures) (d .before .before .sum-of .result) (d .before .before .sum-of .ensures) (c .if1 .taken))
+    let a = s .args in
+    sym
+    (refused-4 (a .n) (a .table .now) (a .p) (omega arith) _ (d .decode .ensures) _ (d .before .before .sum-of .ensures)
+    (c .if1 .taken))
 
 fields-wrong-requires : tie.Need-fields-wrong-requires
 fields-wrong-requires c κs = search needs
 
 returns-2 : tie.Need-returns-2
 returns-2 c =
-    let d = c .before .before .before .before in
+    let four = c .before .before in
+    let d = four .before .before in
     let s = d .before .before .before .before .before in
-    let t = s .args .table .now in
-    sym (refused-5 (s .args .n) t (s .args .p) (omega arith) (d .decode .result) (d .decode .ensures) (d .before .before .sum-of .result) (d .before .before .sum-of .ensures) (c .before .before .if1 .left) (sym (c .before .fields-wrong .ensures) ∙ c .if2 .taken))
+    let a = s .args in
+    sym
+    (refused-5 (a .n) (a .table .now) (a .p) (omega arith) _ (d .decode .ensures) _ (d .before .before .sum-of .ensures)
+    (four .if1 .left)
+    (sym (c .before .fields-wrong .ensures) ∙ c .if2 .taken))
 
 not-above-requires : tie.Need-not-above-requires
 not-above-requires c κs = search needs
 
 returns-3 : tie.Need-returns-3
 returns-3 c =
-    let d = c .before .before .before .before .before .before in
+    let five = c .before .before in
+    let four = five .before .before in
+    let d = four .before .before in
     let s = d .before .before .before .before .before in
-    let t = s .args .table .now in
-    sym (refused-6 (s .args .n) t (s .args .p) (omega arith) (d .decode .result) (d .decode .ensures) (d .before .before .sum-of .result) (d .before .before .sum-of .ensures) (c .before .before .before .before .if1 .left) (sym (c .before .before .before .fields-wrong .ensures) ∙ c .before .before .if2 .left) (sym (c .before .not-above .ensures) ∙ c .if3 .taken))
+    let a = s .args in
+    sym
+    (refused-6 (a .n) (a .table .now) (a .p) (omega arith) _ (d .decode .ensures) _ (d .before .before .sum-of .ensures)
+    (four .if1 .left)
+    (sym (five .before .fields-wrong .ensures) ∙ five .if2 .left)
+    (sym (c .before .not-above .ensures) ∙ c .if3 .taken))
 
 entries-wrong-requires : tie.Need-entries-wrong-requires
-entries-wrong-requires c κs = count-few _ (c .before .before .before .before .before .before .before .before .before .before .before .pre .0)
+entries-wrong-requires c κs =
+    let four = c .before .before .before .before in
+    let s = four .before .before .before .before .before .before .before in
+    count-few _ (s .pre .0)
 
 returns-4 : tie.Need-returns-4
 returns-4 c =
-    let d = c .before .before .before .before .before .before .before .before in
+    let six = c .before .before in
+    let five = six .before .before in
+    let four = five .before .before in
+    let d = four .before .before in
     let s = d .before .before .before .before .before in
-    let t = s .args .table .now in
-    sym (refused-7 (s .args .n) t (s .args .p) (omega arith) (d .decode .result) (d .decode .ensures) (d .before .before .sum-of .result) (d .before .before .sum-of .ensures) (c .before .before .before .before .before .before .if1 .left) (sym (c .before .before .before .before .before .fields-wrong .ensures) ∙ c .before .before .before .before .if2 .left) (sym (c .before .before .before .not-above .ensures) ∙ c .before .before .if3 .left) (sym (c .before .entries-wrong .ensures) ∙ c .if4 .taken))
+    let a = s .args in
+    sym
+    (refused-7 (a .n) (a .table .now) (a .p) (omega arith) _ (d .decode .ensures) _ (d .before .before .sum-of .ensures)
+    (four .if1 .left)
+    (sym (five .before .fields-wrong .ensures) ∙ five .if2 .left)
+    (sym (six .before .not-above .ensures) ∙ six .if3 .left)
+    (sym (c .before .entries-wrong .ensures) ∙ c .if4 .taken))
 
 not-earlier-requires : tie.Need-not-earlier-requires
 not-earlier-requires c κs =
-    let d = c .before .before .before .before .before .before .before .before in
+    let six = c .before .before in
+    let five = six .before .before in
+    let d = five .before .before .before .before in
     let s = d .before .before .before .before .before in
-    let t = s .args .table .now in
-    ready (s .args .n) t (s .args .p) (d .decode .result) (decoded-at t (s .args .p) (d .decode .result) (omega arith) (d .decode .ensures)) (s .pre .0) (omega arith) (s .pre .1 .1) (sym (c .before .before .before .before .before .fields-wrong .ensures) ∙ c .before .before .before .before .if2 .left) (sym (c .before .entries-wrong .ensures) ∙ c .if4 .left)
+    let a = s .args in
+    ready (a .n) (a .table .now) (a .p) _
+    (decoded-at (a .table .now) (a .p) _ (omega arith) (d .decode .ensures))
+    (s .pre .0)
+    (omega arith)
+    (s .pre .1 .1)
+    (sym (five .before .fields-wrong .ensures) ∙ five .if2 .left)
+    (sym (c .before .entries-wrong .ensures) ∙ c .if4 .left)
 
 returns-5 : tie.Need-returns-5
 returns-5 c =
-    let d = c .before .before .before .before .before .before .before .before .before .before in
+    let seven = c .before .before in
+    let six = seven .before .before in
+    let five = six .before .before in
+    let four = five .before .before in
+    let d = four .before .before in
     let s = d .before .before .before .before .before in
-    let t = s .args .table .now in
-    sym (refused-8 (s .args .n) t (s .args .p) (omega arith) (d .decode .result) (d .decode .ensures) (d .before .before .sum-of .result) (d .before .before .sum-of .ensures) (c .before .before .before .before .before .before .before .before .if1 .left) (sym (c .before .before .before .before .before .before .before .fields-wrong .ensures) ∙ c .before .before .before .before .before .before .if2 .left) (sym (c .before .before .before .before .before .not-above .ensures) ∙ c .before .before .before .before .if3 .left) (sym (c .before .before .before .entries-wrong .ensures) ∙ c .before .before .if4 .left) (sym (c .before .not-earlier .ensures) ∙ c .if5 .taken))
+    let a = s .args in
+    sym
+    (refused-8 (a .n) (a .table .now) (a .p) (omega arith) _ (d .decode .ensures) _ (d .before .before .sum-of .ensures)
+    (four .if1 .left)
+    (sym (five .before .fields-wrong .ensures) ∙ five .if2 .left)
+    (sym (six .before .not-above .ensures) ∙ six .if3 .left)
+    (sym (seven .before .entries-wrong .ensures) ∙ seven .if4 .left)
+    (sym (c .before .not-earlier .ensures) ∙ c .if5 .taken))
 
 returns-6 : tie.Need-returns-6
 returns-6 c =
-    let d = c .before .before .before .before .before .before .before .before .before .before .before .before in
+    let eight = c .before .before in
+    let seven = eight .before .before in
+    let six = seven .before .before in
+    let five = six .before .before in
+    let four = five .before .before in
+    let d = four .before .before in
     let s = d .before .before .before .before .before in
-    let t = s .args .table .now in
-    sym (refused-9 (s .args .n) t (s .args .p) (omega arith) (d .decode .result) (d .decode .ensures) (d .before .before .sum-of .result) (d .before .before .sum-of .ensures) (c .before .before .before .before .before .before .before .before .before .before .if1 .left) (sym (c .before .before .before .before .before .before .before .before .before .fields-wrong .ensures) ∙ c .before .before .before .before .before .before .before .before .if2 .left) (sym (c .before .before .before .before .before .before .before .not-above .ensures) ∙ c .before .before .before .before .before .before .if3 .left) (sym (c .before .before .before .before .before .entries-wrong .ensures) ∙ c .before .before .before .before .if4 .left) (sym (c .before .before .before .not-earlier .ensures) ∙ c .before .before .if5 .left) (c .if6 .taken))
+    let a = s .args in
+    sym
+    (refused-9 (a .n) (a .table .now) (a .p) (omega arith) _ (d .decode .ensures) _ (d .before .before .sum-of .ensures)
+    (four .if1 .left)
+    (sym (five .before .fields-wrong .ensures) ∙ five .if2 .left)
+    (sym (six .before .not-above .ensures) ∙ six .if3 .left)
+    (sym (seven .before .entries-wrong .ensures) ∙ seven .if4 .left)
+    (sym (eight .before .not-earlier .ensures) ∙ eight .if5 .left)
+    (c .if6 .taken))
 
 returns-7 : tie.Need-returns-7
 returns-7 c =
-    let d = c .before .before .before .before .before .before .before .before .before .before .before .before in
+    let eight = c .before .before in
+    let seven = eight .before .before in
+    let six = seven .before .before in
+    let five = six .before .before in
+    let four = five .before .before in
+    let d = four .before .before in
     let s = d .before .before .before .before .before in
-    let t = s .args .table .now in
-    sym (passed-all (s .args .n) t (s .args .p) (omega arith) (d .decode .result) (d .decode .ensures) (d .before .before .sum-of .result) (d .before .before .sum-of .ensures) (c .before .before .before .before .before .before .before .before .before .before .if1 .left) (sym (c .before .before .before .before .before .before .before .before .before .fields-wrong .ensures) ∙ c .before .before .before .before .before .before .before .before .if2 .left) (sym (c .before .before .before .before .before .before .before .not-above .ensures) ∙ c .before .before .before .before .before .before .if3 .left) (sym (c .before .before .before .before .before .entries-wrong .ensures) ∙ c .before .before .before .before .if4 .left) (sym (c .before .before .before .not-earlier .ensures) ∙ c .before .before .if5 .left) (c .if6 .left))
+    let a = s .args in
+    sym
+    (passed-all (a .n) (a .table .now) (a .p) (omega arith) _ (d .decode .ensures) _ (d .before .before .sum-of .ensures)
+    (four .if1 .left)
+    (sym (five .before .fields-wrong .ensures) ∙ five .if2 .left)
+    (sym (six .before .not-above .ensures) ∙ six .if3 .left)
+    (sym (seven .before .entries-wrong .ensures) ∙ seven .if4 .left)
+    (sym (eight .before .not-earlier .ensures) ∙ eight .if5 .left)
+    (c .if6 .left))
 
 pub check-record-spec : {M : Type 1} → statement M
 check-record-spec =

@@ -1,0 +1,19 @@
+-- `exports::record_box_lookup_answer` meets its contract: the answer of `table::lookup_answer`, as numbers.
+-- Assumes nothing.
+use mathlib.Core.Path.{_∙_, ap}
+use Rattle.exports.specs.Answers.{lookupAs}
+use borrow.Author.Needs.{needs}
+use Rattle.exports.proofs.record_box_lookup_answer.Statement.{statement}
+use Rattle.exports.proofs.record_box_lookup_answer.Tie as tie
+
+lookup-answer-requires : tie.Need-lookup-answer-requires
+lookup-answer-requires c κs = search needs
+
+lookup-as-requires : tie.Need-lookup-as-requires
+lookup-as-requires c κs = search needs
+
+returns : tie.Need-returns
+returns c = c .lookup-as .ensures ∙ ap lookupAs (c .before .lookup-answer .ensures)
+
+pub record-box-lookup-answer-spec : {M : Type 1} → statement M
+record-box-lookup-answer-spec = tie.close (tie.spec lookup-answer-requires lookup-as-requires returns)

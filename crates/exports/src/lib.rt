@@ -1,0 +1,164 @@
+// What C and Rust call: thin functions over the calls of the library, each equal to its call on all inputs. C has no enum whose
+// cases carry values, so an answer goes out as document 01's number and position. include/record_box.h has the declarations.
+ghost use mathlib.Core.Path.{_≡_};
+ghost use Rattle.rules.specs.Record.{first};
+ghost use Rattle.rules.specs.Refusals.{numberOf, positionOf};
+ghost use Rattle.rules.specs.Check.{check as checked};
+ghost use Rattle.rules.specs.Lookup.{lookupAnswer};
+ghost use Rattle.table.specs.Part.{named};
+ghost use Rattle.exports.specs.Answers.{refusalAs, checkedAs, lookupAs, partAs};
+use rules::Checked;
+use rules::LookupAnswer;
+use rules::Name;
+use rules::Refusal;
+
+const RECORD: usize = 138;
+
+// The number and the position of a refusal; number 0 says that there is none.
+#[repr(C)]
+pub struct Answer {
+    pub number: u32,
+    pub position: usize,
+}
+
+// A part of the lent table: the byte at which it begins, and how many bytes it has.
+#[repr(C)]
+pub struct Part {
+    pub begin: usize,
+    pub length: usize,
+}
+
+// ---- answers as numbers
+
+fn number_of(why: Refusal) -> u32
+    ensures { λ r. ⌜ r ≡ numberOf why ⌝ }
+{
+    match why {
+        Refusal::Authors => 1,
+        Refusal::Length => 2,
+        Refusal::Records => 3,
+        Refusal::Sum { position: _ } => 4,
+        Refusal::Fields { position: _ } => 5,
+        Refusal::Rising { position: _ } => 6,
+        Refusal::Entries { position: _ } => 7,
+        Refusal::Earlier { position: _ } => 8,
+        Refusal::Round { position: _ } => 9,
+        Refusal::Lent => 10,
+        Refusal::Unnamed => 11,
+        Refusal::Input => 12,
+    }
+}
+
+fn position_of(why: Refusal) -> usize
+    ensures { λ r. ⌜ r ≡ positionOf why ⌝ }
+{
+    match why {
+        Refusal::Authors => 0,
+        Refusal::Length => 0,
+        Refusal::Records => 0,
+        Refusal::Sum { position } => position,
+        Refusal::Fields { position } => position,
+        Refusal::Rising { position } => position,
+        Refusal::Entries { position } => position,
+        Refusal::Earlier { position } => position,
+        Refusal::Round { position } => position,
+        Refusal::Lent => 0,
+        Refusal::Unnamed => 0,
+        Refusal::Input => 0,
+    }
+}
+
+fn refusal_as(why: Refusal) -> Answer
+    ensures { λ r. ⌜ r ≡ refusalAs why ⌝ }
+{
+    Answer {
+        number: number_of(why),
+        position: position_of(why),
+    }
+}
+
+fn checked_as(c: Checked) -> Answer
+    ensures { λ r. ⌜ r ≡ checkedAs c ⌝ }
+{
+    match c {
+        Checked::Passed => Answer {
+            number: 0,
+            position: 0,
+        },
+        Checked::Refused(why) => refusal_as(why),
+    }
+}
+
+fn lookup_as(a: LookupAnswer) -> Answer
+    ensures { λ r. ⌜ r ≡ lookupAs a ⌝ }
+{
+    match a {
+        LookupAnswer::Found => Answer {
+            number: 0,
+            position: 0,
+        },
+        LookupAnswer::Refused(why) => refusal_as(why),
+    }
+}
+
+// ---- the exports
+
+// `table::check`. Number 0: the table passes.
+#[no_mangle]
+pub extern "C" fn record_box_check(n: u8, table: &[u8]) -> Answer
+    ensures { λ r. ⌜ r ≡ checkedAs (checked first n (now (table .entry))) ⌝ }
+{
+    checked_as(table::check(n, table))
+}
+
+// `table::lookup`. An exported function cannot return a reference, so it gives where in the lent table the part that
+// `table::lookup` hands back begins, and how long it is: the record's 138 bytes, or the first zero bytes on any refusal.
+#[no_mangle]
+pub extern "C" fn record_box_lookup(n: u8, table: &[u8], round: u32, author: u8, mark: u32) -> Part
+    ensures { λ r. ⌜ r ≡ partAs first n (now (table .entry)) (named round author mark) ⌝ }
+{
+    let k = table.len() / RECORD;
+    let c = table::check(n, table);
+    match c {
+        Checked::Passed => {}
+        Checked::Refused(_) => {
+            return Part {
+                begin: 0,
+                length: 0,
+            };
+        }
+    }
+    let p = table::find(
+        table,
+        k,
+        Name {
+            round,
+            author,
+            mark,
+        },
+    );
+    if p < k {
+        return Part {
+            begin: RECORD * p,
+            length: RECORD,
+        };
+    }
+    Part {
+        begin: 0,
+        length: 0,
+    }
+}
+
+// `table::lookup_answer`. Number 0: the name is found.
+#[no_mangle]
+pub extern "C" fn record_box_lookup_answer(
+    n: u8,
+    table: &[u8],
+    round: u32,
+    author: u8,
+    mark: u32,
+) -> Answer
+    ensures { λ r. ⌜ r ≡ lookupAs (lookupAnswer first n (now (table .entry)) (named round author mark)) ⌝ }
+{
+    lookup_as(table::lookup_answer(n, table, round, author, mark))
+}

@@ -1,0 +1,110 @@
+//! The proved code, through its C interface (`include/record_box.h`). What is unsafe
+//! in this package stands here.
+
+/// A refusal's number and position; number 0 is none.
+#[repr(C)]
+#[derive(Clone, Copy, Debug, PartialEq, Eq)]
+pub struct Answer {
+    pub number: u32,
+    pub position: usize,
+}
+
+/// Where a part of the lent table begins, and how many bytes it has.
+#[repr(C)]
+#[derive(Clone, Copy, Debug, PartialEq, Eq)]
+pub struct Part {
+    pub begin: usize,
+    pub length: usize,
+}
+
+#[link(name = "exports", kind = "static")]
+extern "C" {
+    fn record_box_check(n: u8, table: *const u8, table_length: usize) -> Answer;
+    fn record_box_lookup(
+        n: u8,
+        table: *const u8,
+        table_length: usize,
+        round: u32,
+        author: u8,
+        mark: u32,
+    ) -> Part;
+    fn record_box_lookup_answer(
+        n: u8,
+        table: *const u8,
+        table_length: usize,
+        round: u32,
+        author: u8,
+        mark: u32,
+    ) -> Answer;
+}
+
+// In each: the pointer and the length are a slice's, which is lent for the whole
+// call; the call only reads it and keeps no pointer.
+
+pub fn check(n: u8, table: &[u8]) -> Answer {
+    // SAFETY: see above.
+    unsafe { record_box_check(n, table.as_ptr(), table.len()) }
+}
+
+pub fn lookup(n: u8, table: &[u8], round: u32, author: u8, mark: u32) -> Part {
+    // SAFETY: see above.
+    unsafe { record_box_lookup(n, table.as_ptr(), table.len(), round, author, mark) }
+}
+
+pub fn lookup_answer(n: u8, table: &[u8], round: u32, author: u8, mark: u32) -> Answer {
+    // SAFETY: see above.
+    unsafe { record_box_lookup_answer(n, table.as_ptr(), table.len(), round, author, mark) }
+}
+
+/// How many bytes of stack a call takes, where it can be measured.
+#[cfg(not(target_arch = "x86_64"))]
+pub fn stack_of(_call: impl FnMut()) -> Option<usize> {
+    None
+}
+
+/// How many bytes of stack a call takes: it is run on a stack of its own that was
+/// filled with a pattern, and everything above the lowest byte that changed counts.
+/// A byte may be written with the very pattern, so two patterns are tried.
+#[cfg(target_arch = "x86_64")]
+pub fn stack_of(mut call: impl FnMut()) -> Option<usize> {
+    let patterns = [0x5A5A_5A5A_5A5A_5A5A, 0xA5A5_A5A5_A5A5_A5A5];
+    let taken = patterns.map(|pattern| taken_of(pattern, &mut call));
+    taken.into_iter().max()
+}
+
+#[cfg(target_arch = "x86_64")]
+fn taken_of<F: FnMut()>(pattern: u64, call: &mut F) -> usize {
+    /// Words of 8 bytes.
+    const WORDS: usize = 1 << 17;
+
+    extern "C" fn enter<F: FnMut()>(call: *mut F) {
+        // SAFETY: it is the reference that `taken_of` holds for the whole call.
+        unsafe { (*call)() }
+    }
+
+    let mut stack = vec![[pattern; 2]; WORDS / 2];
+    let enter: extern "C" fn(*mut F) = enter::<F>;
+    let call: *mut F = call;
+    // The upper end of a stack is a multiple of 16.
+    let top = stack.as_mut_ptr_range().end as usize & !15;
+    // SAFETY: from `top` down lies a megabyte of our own, which no one else uses
+    // meanwhile. The old stack pointer is kept in a register that a callee has to
+    // restore, and `enter` does not unwind: a panic in an `extern "C"` function ends
+    // the program.
+    unsafe {
+        std::arch::asm!(
+            "mov r12, rsp",
+            "mov rsp, {top}",
+            "call {enter}",
+            "mov rsp, r12",
+            top = in(reg) top,
+            enter = in(reg) enter,
+            in("rdi") call,
+            out("r12") _,
+            clobber_abi("C"),
+        );
+    }
+    let words = stack.as_flattened();
+    let untouched = words.iter().take_while(|&&word| word == pattern).count();
+    8 * (words.len() - untouched)
+}

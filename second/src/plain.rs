@@ -1,0 +1,149 @@
+//! The check in plain Rust without a heap: the same algorithm as the proved one, with
+//! the same search by halves, written for speed. The benchmark measures the proved
+//! code against it; the rules of this package do not use it.
+
+use crate::check::Refusal;
+use crate::record::{Name, ENTRIES, MOST_RECORDS, RECORD_BYTES};
+
+type Record = [u8; RECORD_BYTES];
+
+/// A call of its own, as the proved check is one.
+#[inline(never)]
+pub fn check(n: u8, table: &[u8]) -> Result<(), Refusal> {
+    if !(4..=31).contains(&n) || n % 3 != 1 {
+        return Err(Refusal::at_0(1));
+    }
+    let (records, rest) = table.as_chunks::<RECORD_BYTES>();
+    if !rest.is_empty() {
+        return Err(Refusal::at_0(2));
+    }
+    if records.len() > MOST_RECORDS {
+        return Err(Refusal::at_0(3));
+    }
+    for (position, record) in records.iter().enumerate() {
+        if let Some(number) = failing(n, &records[..position], record) {
+            return Err(Refusal { number, position });
+        }
+    }
+    Ok(())
+}
+
+/// The first of checks 4 to 9 that one record fails.
+#[inline]
+fn failing(n: u8, earlier: &[Record], record: &Record) -> Option<u8> {
+    if sum_of(record) != u16_at(record, 136) {
+        return Some(4);
+    }
+    let name = name_of(record);
+    if record[135] != 0 || name.round == 0 || name.mark == 0 || name.author >= n {
+        return Some(5);
+    }
+    if earlier
+        .last()
+        .is_some_and(|last| !below(name_of(last), name))
+    {
+        return Some(6);
+    }
+    let refs = refs_of(record);
+    if entries_are_wrong(n, name.round, &refs) {
+        return Some(7);
+    }
+    if !all_stand(earlier, name.round, &refs[..usize::from(n)]) {
+        return Some(8);
+    }
+    (name.round > 1_400).then_some(9)
+}
+
+#[inline]
+fn entries_are_wrong(n: u8, round: u32, refs: &[u32; ENTRIES]) -> bool {
+    let own = filled(&refs[..usize::from(n)]);
+    let all = filled(refs);
+    let quorum = 2 * (usize::from(n) / 3) + 1;
+    (round == 1 && all > 0) || own < all || (round > 1 && all < quorum)
+}
+
+#[inline]
+fn filled(entries: &[u32]) -> usize {
+    entries.iter().filter(|&&mark| mark != 0).count()
+}
+
+/// Every reference names an earlier record. In round 1 there is none.
+#[inline]
+fn all_stand(earlier: &[Record], round: u32, refs: &[u32]) -> bool {
+    (0u8..).zip(refs).all(|(author, &mark)| {
+        let name = Name {
+            round: round.wrapping_sub(1),
+            author,
+            mark,
+        };
+        mark == 0 || stands(earlier, name)
+    })
+}
+
+/// The search by halves, among records whose names rise.
+#[inline]
+fn stands(earlier: &[Record], name: Name) -> bool {
+    let (mut low, mut high) = (0, earlier.len());
+    while low < high {
+        let middle = low.midpoint(high);
+        let there = name_of(&earlier[middle]);
+        if same(there, name) {
+            return true;
+        }
+        match below(there, name) {
+            true => low = middle + 1,
+            false => high = middle,
+        }
+    }
+    false
+}
+
+// By hand: with the order that Rust derives, the search takes a tenth more
+// instructions.
+
+#[inline]
+fn same(a: Name, b: Name) -> bool {
+    a.round == b.round && a.author == b.author && a.mark == b.mark
+}
+
+#[inline]
+fn below(a: Name, b: Name) -> bool {
+    if a.round != b.round {
+        return a.round < b.round;
+    }
+    if a.author != b.author {
+        return a.author < b.author;
+    }
+    a.mark < b.mark
+}
+
+#[inline]
+fn sum_of(record: &Record) -> u16 {
+    let (words, _) = record[..136].as_chunks::<2>();
+    let words = words.iter().map(|&word| u16::from_le_bytes(word));
+    words.fold(0, u16::wrapping_add)
+}
+
+#[inline]
+fn refs_of(record: &Record) -> [u32; ENTRIES] {
+    std::array::from_fn(|author| u32_at(record, 8 + 4 * author))
+}
+
+#[inline]
+fn name_of(record: &Record) -> Name {
+    Name {
+        round: u32_at(record, 0),
+        author: record[134],
+        mark: u32_at(record, 4),
+    }
+}
+
+#[inline]
+fn u16_at(record: &Record, at: usize) -> u16 {
+    u16::from_le_bytes([record[at], record[at + 1]])
+}
+
+#[inline]
+fn u32_at(record: &Record, at: usize) -> u32 {
+    u32::from_le_bytes([record[at], record[at + 1], record[at + 2], record[at + 3]])
+}

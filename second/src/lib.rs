@@ -3,7 +3,8 @@
 //!
 //! `authors`, `record`, `check`, `table`, `decide`, `settle` and `program` are the
 //! rules; `rng`, `grow`, `damage`, `generate` and `shares` make random tables and
-//! show what these reach; `vectors` makes the stored tables of the crate of that name.
+//! show what these reach; `vectors` makes the stored tables of the crate of that name;
+//! `through` compares a built program with `program`.
 //! With the feature `library`, `library` calls the proved code, `compare` asks both, and
 //! `bench` measures the proved code against `plain`.
 
@@ -30,4 +31,5 @@ pub mod rng;
 pub mod settle;
 pub mod shares;
 pub mod table;
+pub mod through;
 pub mod vectors;

@@ -3,7 +3,8 @@
 //!
 //! `authors`, `record`, `check`, `table`, `decide`, `settle` and `program` are the
 //! rules; `rng`, `grow`, `damage`, `generate` and `shares` make random tables and
-//! show what these reach; `vectors` makes the stored tables of the crate of that name.
+//! show what these reach; `vectors` makes the stored tables of the crate of that name;
+//! `through` compares a built program with `program`.
 //! With the feature `library`, `library` calls the proved code, `compare` asks both, and
 //! `bench` measures the proved check against `plain`; `settle_bench` the settlement against
 //! `plain_settle`, on honest tables and on those of `hostile`.
@@ -36,4 +37,5 @@ pub mod settle;
 pub mod settle_bench;
 pub mod shares;
 pub mod table;
+pub mod through;
 pub mod vectors;

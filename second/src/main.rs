@@ -4,6 +4,7 @@
 use second::generate::{input, Kind};
 use second::program::run;
 use second::shares::shares;
+use second::through::through;
 use second::vectors;
 use std::io::{Read, Write};
 use std::path::Path;
@@ -14,6 +15,8 @@ second settle                        the program: reads n and a table, prints X 
 second generate --kind NAME --seed S writes an input of the program
 second shares --cases N --seed S     counts what generated tables reach
 second vectors FOLDER                writes the stored tables of crates/vectors, their names and answers
+second program --runner COMMAND --cases N --seed S
+                                     compares what the command prints with what settle prints
 second help                          prints this
 With the feature library, which .ci/library builds and runs:
 second compare --cases N --seed S    asks the proved code too, and counts where the answers differ
@@ -73,6 +76,15 @@ fn answer(words: &[&str]) -> Result<Output, String> {
             Ok(files) => Ok(Output::of(format!("{files} files\n").into_bytes())),
             Err(error) => Err(format!("{folder}: {error}")),
         },
+        ["program", "--runner", runner, "--cases", cases, "--seed", seed] => {
+            match through(runner, number(cases)?, number(seed)?) {
+                Ok(compared) => Ok(Output {
+                    bytes: compared.to_string().into_bytes(),
+                    status: u8::from(compared.failed() > 0),
+                }),
+                Err(error) => Err(format!("{runner}: {error}")),
+            }
+        }
         ["compare", "--cases", cases, "--seed", seed] => {
             linked::compare(number(cases)?, number(seed)?)
         }

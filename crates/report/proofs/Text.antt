@@ -7,7 +7,7 @@ use native.Mathlib.Nat.{le-refl}
 use native.Mathlib.Numerals.{add-one}
 use native.Mathlib.Omega.{arith}
 use lib.ListN.{length, getD, take, drop, set, length-append, length-drop}
-use lib.Seq.{length-take-le, take-suc, take-all}
+use lib.Seq.{length-take-le, take-suc, take-all, take-append-seam}
 use borrow.Author.Tests.{le-leb, lt-leb}
 use Rattle.folds.proofs.Lists.{put-next}
 use Rattle.rules.specs.Program.{decimal, line}
@@ -21,6 +21,9 @@ use Rattle.report.specs.Text.{textOf, Room, Begun, Grown, Numbered, Spel
 pub text-length : {l : Line} → Room l 0 → length (textOf l) ≡ l .len
 unfolding textOf
 text-length {l} r = length-take-le (l .len) (l .bytes) (rw (r .whole) (omega arith))
+
+pub text-short : {l : Line} → Room l 0 → length (textOf l) ≤ 112
+text-short r = rw (text-length r) (omega (arith, r .left))
 
 -- two pieces in turn are one
 pub grown-twice : {l m r : Line} {a b : List ℕ} → Grown l a m → Grown m b r → Grown l (a ++ b) r
@@ -70,13 +73,21 @@ copy-next b d i h k =
     let e : take (i + 1) b ≡ take i b ++ getD b i 0 ∷ [] = rw (add-one i) (take-suc b i 0 h) in
     rw e (put-next (take i b) d i (getD b i 0) 0 (length-take-le i b (omega arith)) k)
 
-pub fills-not : (bytes old : List ℕ) → length old < length bytes → Fills bytes old old 0
-fills-not bytes old h = let e = lt-leb _ _ h in record { answer = rw e; buffer = rw e; within = omega arith; part = refl }
+pub fills-not : (bytes old : List ℕ) → length bytes ≤ 112 → length old < length bytes → Fills bytes old old 0
+fills-not bytes old s h = let e = lt-leb _ _ h in record { answer = rw e; buffer = rw e; short = s; within = omega arith; part = refl }
 
-pub fills-so : (bytes old new : List ℕ) (r : ℕ) → length bytes ≡ r → r ≤ length old → new ≡ bytes ++ drop r old → Fills bytes old new r
-fills-so bytes old new r n h p =
+pub fills-so : (bytes old new : List ℕ) (r : ℕ) → length bytes ≤ 112 → length bytes ≡ r → r ≤ length old → new ≡ bytes ++ drop r old → Fills bytes old new r
+fills-so bytes old new r s n h p =
     let q : length bytes ≤ length old = omega arith in
     let e = le-leb _ _ q in
     let l : length new ≡ length bytes + (length old - r) = ap length p ∙ simp (length-append, length-drop) in
     let w : r ≤ length new = omega arith in
-    record { answer = rw (e, n); buffer = rw (e, n) p; within = w; part = sym (length-take-le r new w) }
+    record { answer = rw (e, n); buffer = rw (e, n) p; short = s; within = w; part = sym (length-take-le r new w) }
+
+-- what is handed over from a buffer of 112 bytes is the line
+pub fills-whole : (bytes old new : List ℕ) (r : ℕ) → Fills bytes old new r → 112 ≤ length old → take r new ≡ bytes
+fills-whole bytes old new r f h =
+    let e = le-leb (length bytes) (length old) (omega (arith, f .short)) in
+    let a : r ≡ length bytes = rw e at (f .answer) in
+    let b : new ≡ bytes ++ drop (length bytes) old = rw e at (f .buffer) in
+    rw (a, b) (take-append-seam bytes (drop (length bytes) old))

@@ -21,6 +21,10 @@ use Rattle.report.proofs.line_committed.Kinds as committed-kinds
 use Rattle.report.proofs.line_committed.Reads as committed
 use Rattle.report.proofs.line_vertex.Kinds as vertex-kinds
 use Rattle.report.proofs.line_vertex.Reads as vertex
+use Rattle.report.proofs.output.output_line.Kinds as output-line-kinds
+use Rattle.report.proofs.output.output_line.Reads as output-line
+use Rattle.report.proofs.output.output_lines.Kinds as output-lines-kinds
+use Rattle.report.proofs.output.output_lines.Reads as output-lines
 
 -- one answer, one buffer
 fills-once : {bytes old m n : List ℕ} {r s : ℕ} → Fills bytes old m r → Fills bytes old n s → (r ≡ s) × (m ≡ n)
@@ -47,3 +51,9 @@ committed-unique κs a x y e f p q = fills-once p q
 
 pub vertex-unique : Only 1 vertex-kinds.ps vertex-kinds.r (λ κs x e y f. (x ≡ y) × (now (e .1 .0) ≡ now (f .1 .0))) vertex.Post
 vertex-unique κs a x y e f p q = fills-once p q
+
+pub output-line-unique : Only 4 output-line-kinds.ps output-line-kinds.r (λ κs x e y f. (x ≡ y) × (now (e .1 .1 .1 .1 .1 .0) ≡ now (f .1 .1 .1 .1 .1 .0))) output-line.Post
+output-line-unique κs a x y e f p q = fills-once p q
+
+pub output-lines-unique : Only 0 output-lines-kinds.ps output-lines-kinds.r (λ κs x e y f. x ≡ y) output-lines.Post
+output-lines-unique κs a x y e f p q = p ∙ sym q

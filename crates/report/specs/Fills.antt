@@ -16,6 +16,8 @@ fits bytes old = leb (length bytes) (length old)
 pub record Fills (bytes old new : List ℕ) (r : ℕ) : Type 0 where
   pub answer : r ≡ cond (fits bytes old) (length bytes) 0
   pub buffer : new ≡ cond (fits bytes old) (writtenOver bytes old) old
+  -- No line is longer, so a buffer of 112 bytes holds each.
+  pub short : length bytes ≤ 112
   -- These two follow. They are stated so that the proof that a caller's `&out[..r]` needs finds them.
   pub within : r ≤ length new
   pub part : r ≡ length (take r new)

@@ -1,3 +1,4 @@
 pub mod Lines
 pub mod Fills
 pub mod Text
+pub mod Output

@@ -12,6 +12,8 @@ use rules::Counts;
 use rules::Name;
 use rules::Refusal;
 
+pub mod output;
+
 // A line as far as it is put together: the first `len` bytes. The longest has a letter, five numbers of up to 20 digits with a space before
 // each, and its end: 107 bytes.
 struct Line {

@@ -47,6 +47,15 @@ fn shares_and_help_print() {
     assert!(second(&["help"], &[]).status.success());
 }
 
+/// A program that prints what it reads is wrong on every input.
+#[test]
+fn another_program_is_told_apart() {
+    let words = ["program", "--runner", "cat", "--cases", "60", "--seed", "1"];
+    let output = second(&words, &[]);
+    assert_eq!(output.status.code(), Some(1));
+    assert!(output.stdout.ends_with(b"\n0 passed, 60 failed\n"));
+}
+
 #[test]
 fn unknown_arguments_are_told() {
     for arguments in [

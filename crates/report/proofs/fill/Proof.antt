@@ -5,7 +5,7 @@ use mathlib.Core.Path.{_≡_, refl}
 use mathlib.Core.List.{_++_}
 use lib.ListN.{length, take, drop, length-set}
 use Rattle.report.specs.Text.{textOf}
-use Rattle.report.proofs.Text.{text-length, copy-next, fills-not, fills-so}
+use Rattle.report.proofs.Text.{text-length, text-short, copy-next, fills-not, fills-so}
 use native.Mathlib.Omega.{arith}
 use borrow.Author.Needs.{needs}
 use Rattle.report.proofs.fill.Statement.{statement}
@@ -18,7 +18,7 @@ abbrev μ-loop : tie.MeasureT-loop
 μ-loop out₀ n bytes i₀ out i = n - i
 
 returns : tie.Need-returns Inv-loop μ-loop
-returns c = fills-not (textOf (c .before .args .l)) _ (rw (text-length (c .before .pre)) (c .if1 .taken))
+returns c = fills-not (textOf (c .before .args .l)) _ (text-short (c .before .pre)) (rw (text-length (c .before .pre)) (c .if1 .taken))
 
 loop-holds : tie.Need-loop-holds Inv-loop μ-loop
 loop-holds c = (omega arith, refl, refl)
@@ -53,7 +53,7 @@ returns-2 c =
     let l = c .before in
     let s = l .before .before .before in
     let e : l .loop .i ≡ s .args .l .len = omega arith in
-    fills-so (textOf (s .args .l)) (s .args .out .now) _ _ (text-length (s .pre)) (omega arith) (rw e at (l .loop .inv .2))
+    fills-so (textOf (s .args .l)) (s .args .out .now) _ _ (text-short (s .pre)) (text-length (s .pre)) (omega arith) (rw e at (l .loop .inv .2))
 
 pub fill-spec : {M : Type 1} → statement M
 fill-spec =

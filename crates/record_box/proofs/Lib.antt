@@ -1,0 +1,3 @@
+pub mod Rounds
+pub mod Answered
+pub mod Prints

@@ -1,0 +1,51 @@
+-- What the program prints: the lines of what it answers, one after the other, are the output of document 01's program, for every input.
+-- Assumes nothing.
+use Prim.Native.Nat.{ℕ, _≤_, _<_}
+use mathlib.Core.Path.{_≡_, refl, sym, ap, _∙_}
+use mathlib.Core.Bool.{Bool, true, false}
+use mathlib.Core.List.{List}
+use native.Mathlib.Omega.{arith}
+use lib.Dec.{ltb}
+use lib.ListN.{length, drop, length-drop}
+use borrow.Author.Tests.{ltb-false}
+use Rattle.folds.proofs.Tests.{by-test}
+use Rattle.rules.specs.declared.Refusal.the-variants.{Input, Lent}
+use Rattle.rules.specs.declared.Checked.{Checked}
+use Rattle.rules.specs.declared.Checked.the-variants.{Passed, Refused}
+use Rattle.rules.specs.Refusals.{_when_, _then_}
+use Rattle.rules.specs.Record.{first, vertices}
+use Rattle.rules.specs.Check.{check}
+use Rattle.rules.specs.Decide.{document01}
+use Rattle.rules.specs.Settlement.{Buffers, tooShort}
+use Rattle.rules.specs.Program.{lines, holds, printed}
+use Rattle.rules.proofs.Refusals.{when-no, then-passed}
+use Rattle.rules.proofs.Accepted.{accepted}
+use Rattle.report.specs.Output.{output}
+use Rattle.report.proofs.Printed.{output-is}
+use Rattle.record_box.specs.Answer.{authorsIn, tableIn, checked, answered}
+use Rattle.record_box.proofs.Rounds.{Held, long-enough}
+
+-- After a table passes, its memory is long enough: 10 is never given.
+never-lent : (n : ℕ) (t : List ℕ) (b : Buffers) (c : Checked) → check first n t ≡ c → length t ≤ 65412 → Held b → c then Lent when tooShort (document01 n) (vertices first t) b ≡ c
+unfolding _then_
+never-lent n t b Passed e l h = when-no Lent _ (long-enough n t b (accepted first n t e) l h)
+never-lent n t b (Refused r) e l h = refl
+
+-- So the checks are those that the program makes.
+checked-is : (input : List ℕ) (b : Buffers) → Held b → checked input b ≡ Input when ltb holds (length input) then check first (authorsIn input) (tableIn input)
+unfolding checked _when_ _then_
+checked-is input b h = by-test (ltb holds (length input)) long fits
+  where
+    long : ltb holds (length input) ≡ true → checked input b ≡ Input when ltb holds (length input) then check first (authorsIn input) (tableIn input)
+    long e = rw e
+
+    fits : ltb holds (length input) ≡ false → checked input b ≡ Input when ltb holds (length input) then check first (authorsIn input) (tableIn input)
+    fits e =
+        let l : length (tableIn input) ≤ 65412 = simp length-drop (omega (arith, ltb-false holds (length input) e)) in
+        ap (λ c. Input when ltb holds (length input) then c) (never-lent (authorsIn input) (tableIn input) b _ refl l h)
+
+-- The lines of the answer are the output.
+pub prints : (input : List ℕ) (b : Buffers) → Held b
+    → output (answered input b .outcome) (tableIn input) (answered input b .buffers .cells) (answered input b .buffers .order) ≡ printed input
+unfolding answered printed
+prints input b h = output-is (checked input b) (authorsIn input) (tableIn input) b ∙ ap (λ c. lines c (document01 (authorsIn input)) (authorsIn input) (vertices first (tableIn input))) (checked-is input b h)

@@ -1,0 +1,52 @@
+-- `record_box::answer` meets its contract: an input that is too long, and any other.
+-- Assumes nothing.
+use mathlib.Core.Path.{refl}
+use Rattle.record_box.proofs.Answered.{answers-long, answers-fits}
+use borrow.Author.Needs.{needs}
+use Rattle.record_box.proofs.answer.Statement.{statement}
+use Rattle.record_box.proofs.answer.Tie as tie
+
+returns : tie.Need-returns
+returns c =
+    let a = c .before .before .before .before .before .args in
+    answers-long (a .input .now) (record { cells = a .cells .now; order = a .order .now; taken = a .taken .now }) _ (c .if1 .taken) refl
+
+byte-at-requires : tie.Need-byte-at-requires
+byte-at-requires c κs = search needs
+
+table-of-requires : tie.Need-table-of-requires
+table-of-requires c κs = search needs
+
+settle-requires : tie.Need-settle-requires
+settle-requires c κs = search needs
+
+same-length : tie.Need-same-length
+same-length c = search needs
+
+same-length-2 : tie.Need-same-length-2
+same-length-2 c = search needs
+
+same-length-3 : tie.Need-same-length-3
+same-length-3 c = search needs
+
+returns-2 : tie.Need-returns-2
+returns-2 c =
+    let s = c .before .before .before .before .before .before in
+    let t = s .before .before .before .before in
+    let n = t .before in
+    let f = n .before in
+    let a = f .before .before .before .before .before .args in
+    answers-fits (a .input .now) _ (n .byte-at .result) _ _ (s .settle .result) (f .if1 .left) (n .byte-at .ensures) (t .table-of .ensures) (s .settle .ensures)
+
+pub answer-spec : {M : Type 1} → statement M
+answer-spec =
+    tie.close
+    (tie.spec
+    returns
+    byte-at-requires
+    table-of-requires
+    settle-requires
+    same-length
+    same-length-2
+    same-length-3
+    returns-2)

@@ -1,0 +1,130 @@
+// Which line stands where in what the program prints: its line i, for a settlement and the cells and order places that it left.
+ghost use mathlib.Core.Path.{_≡_};
+ghost use Prim.Native.Nat.{_+_, min};
+ghost use lib.ListN.{getD};
+ghost use Rattle.rules.specs.Record.{first, vertices, at, nameOf};
+ghost use Rattle.rules.specs.Program.{lineR};
+ghost use Rattle.report.specs.Fills.{Fills};
+ghost use Rattle.report.specs.Output.{decisionOf, settledLine, outputLine, outputLines};
+use crate::line_committed;
+use crate::line_refused;
+use crate::line_settled;
+use crate::line_skipped;
+use crate::line_undecided;
+use crate::line_vertex;
+use rules::Counts;
+use rules::Name;
+use rules::Outcome;
+use rules::Settlement;
+
+const RECORD: usize = 138;
+
+// Past this a number of lines is not told.
+const MOST: usize = 18446744073709551615;
+
+// Number i; 0 past the end.
+fn number_at(s: &[u32], i: usize) -> u32
+    ensures { λ r. ⌜ r ≡ getD (now (s .entry)) i 0 ⌝ }
+{
+    if i < s.len() {
+        return s[i];
+    }
+    0
+}
+
+// The name of the record at p; zeros where there is none. The test comes first, so that no product overflows.
+fn name_at(table: &[u8], p: usize) -> Name
+    ensures { λ r. ⌜ r ≡ nameOf (at (vertices first (now (table .entry))) p) ⌝ }
+{
+    if p < table.len() / RECORD {
+        return record::name_of(&table[RECORD * p..RECORD * p + RECORD]);
+    }
+    Name {
+        round: 0,
+        author: 0,
+        mark: 0,
+    }
+}
+
+// The line of a round, by its cell.
+fn round_line(table: &[u8], round: u32, cell: u32, out: &mut [u8]) -> usize
+    ensures { λ k. ⌜ Fills (lineR (vertices first (now (table .entry))) round (decisionOf cell)) (now (out .entry)) (now (out .exit)) k ⌝ }
+{
+    if cell == 0 {
+        return line_undecided(round, out);
+    }
+    if cell == 1 {
+        return line_skipped(round, out);
+    }
+    let x = name_at(table, cell as usize - 2);
+    line_committed(round, x.author, x.mark, out)
+}
+
+// Line i of a settled table.
+fn settled_line(
+    c: Counts,
+    table: &[u8],
+    cells: &[u32],
+    order: &[u32],
+    i: usize,
+    out: &mut [u8],
+) -> usize
+    ensures { λ k. ⌜ Fills (settledLine c (now (table .entry)) (now (cells .entry)) (now (order .entry)) i) (now (out .entry)) (now (out .exit)) k ⌝ }
+{
+    if i == 0 {
+        return line_settled(c, out);
+    }
+    let rounds = c.highest as usize;
+    if i - 1 < rounds {
+        return round_line(table, i as u32, number_at(cells, i - 1), out);
+    }
+    let w = i - 1 - rounds;
+    if w < c.written {
+        return line_vertex(name_at(table, number_at(order, w) as usize), out);
+    }
+    0
+}
+
+// Line i of what the program prints, from 0 on; past the last there are no bytes.
+pub fn output_line(
+    s: Settlement,
+    table: &[u8],
+    cells: &[u32],
+    order: &[u32],
+    i: usize,
+    out: &mut [u8],
+) -> usize
+    ensures { λ k. ⌜ Fills (outputLine (s .outcome) (now (table .entry)) (now (cells .entry)) (now (order .entry)) i) (now (out .entry)) (now (out .exit)) k ⌝ }
+{
+    let o = s.outcome;
+    match o {
+        Outcome::Settled(c) => settled_line(c, table, cells, order, i, out),
+        Outcome::Refused(r) => {
+            if i == 0 {
+                return line_refused(r, out);
+            }
+            0
+        }
+    }
+}
+
+fn settled_lines(c: Counts) -> usize
+    ensures { λ r. ⌜ r ≡ min (1 + c .highest + c .written) 18446744073709551615 ⌝ }
+{
+    let before = 1 + c.highest as usize;
+    if c.written < MOST - before {
+        return before + c.written;
+    }
+    MOST
+}
+
+// How many lines there are. A sum that does not fit is told as the largest number.
+pub fn output_lines(s: Settlement) -> usize
+    ensures { λ r. ⌜ r ≡ min (outputLines (s .outcome)) 18446744073709551615 ⌝ }
+{
+    let o = s.outcome;
+    match o {
+        Outcome::Settled(c) => settled_lines(c),
+        Outcome::Refused(_) => 1,
+    }
+}

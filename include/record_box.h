@@ -13,7 +13,7 @@
  *     every buffer before, during and after.
  *   - What is lent as `const` is only read. Two buffers of which one is not `const` must not overlap.
  *   - Calls share no state: they may run side by side on several threads, also on one table.
- *   - A call takes a few hundred bytes of stack (docs/PERFORMANCE.md has them measured), and does not call itself.
+ *   - A call takes less than 4 KiB of stack (docs/PERFORMANCE.md has each measured), and does not call itself.
  */
 #ifndef RECORD_BOX_H
 #define RECORD_BOX_H

@@ -55,8 +55,9 @@ fn crowd(round: u32, author: u8, vertices: usize) -> Crowd {
 }
 
 /// Many twins of the leader of round 1, each with 2f+1 authors of round 2 that
-/// support it, and as many vertices of round 3 as there is room for, each of which
-/// certifies one of them.
+/// support it, and as many vertices of one author in round 3 as there is room for,
+/// each of which certifies one of them. The others certify none: what they reference
+/// supports a twin each. So no twin is committed, and each has to be looked at.
 fn supported_twins(n: u8) -> Vec<Vertex> {
     let supporters = quorum(n) as u8;
     let twins = MOST_RECORDS / (usize::from(supporters) + 3);
@@ -68,7 +69,17 @@ fn supported_twins(n: u8) -> Vec<Vertex> {
     }
     // The last author, so that the others are there where the table is cut.
     plan.crowds.push(crowd(3, n - 1, MOST_RECORDS));
-    grow(&plan, &mut Rng::new(1))
+    let mut vertices = grow(&plan, &mut Rng::new(1));
+    for vertex in &mut vertices {
+        if vertex.round == 3 && vertex.author < n - 1 {
+            let supported = &mut vertex.refs[..usize::from(supporters)];
+            supported
+                .iter_mut()
+                .zip(1..)
+                .for_each(|(mark, twin)| *mark = twin);
+        }
+    }
+    vertices
 }
 
 /// A third of the table twins of the leader of round 1, and two thirds twins of one
@@ -95,11 +106,10 @@ fn shunned_twins(n: u8) -> Vec<Vertex> {
     grow(&plan, &mut Rng::new(1))
 }
 
-/// Three rounds in which every author has as many twins as there is room for, side by
-/// side.
+/// Three rounds in which every author has as many twins as there is room for, which
+/// reference each other by chance.
 fn widest(n: u8) -> Vec<Vertex> {
     let mut plan = full(n);
-    plan.same_side = 100;
     plan.rounds = 3;
     for round in 1..=3 {
         for author in 0..n {

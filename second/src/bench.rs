@@ -3,7 +3,8 @@
 
 use crate::check::check;
 use crate::compare::answer;
-use crate::generate::{honest, Lent};
+use crate::generate::honest;
+use crate::hostile::hostile;
 use crate::library::{self, stack_of};
 use crate::plain;
 use crate::record::{Name, MOST_RECORDS};
@@ -132,7 +133,6 @@ fn stacks() -> Vec<Stack> {
         author,
         mark,
     } = last_name(&table);
-    let mut lent: Lent = room();
     let stack = |call, bytes| Stack { call, bytes };
     vec![
         stack("no call at all", stack_of(|| ())),
@@ -154,13 +154,23 @@ fn stacks() -> Vec<Stack> {
                 black_box(library::lookup_answer(n, &table, round, author, mark));
             }),
         ),
-        stack(
-            "settle",
-            stack_of(|| {
-                black_box(settle(n, &table, &mut lent));
-            }),
-        ),
+        stack("settle", settle_stack(n, &table)),
     ]
+}
+
+/// The most that a settlement takes: an honest table has no indirect decision, so the
+/// hostile ones are settled too.
+fn settle_stack(n: u8, honest: &[u8]) -> Option<usize> {
+    let mut lent = room();
+    let mut stack = |table: &[u8]| {
+        stack_of(|| {
+            black_box(settle(n, table, &mut lent));
+        })
+    };
+    let hostile = hostile(n);
+    let stacks = hostile.iter().map(|hostile| stack(&hostile.table));
+    let most = stacks.max().flatten();
+    most.max(stack(honest))
 }
 
 fn last_name(table: &[u8]) -> Name {

@@ -6,15 +6,14 @@ ghost use Rattle.rules.specs.Refusals.{numberOf, positionOf};
 ghost use Rattle.rules.specs.Check.{check as checked};
 ghost use Rattle.rules.specs.Lookup.{lookupAnswer};
 ghost use Rattle.table.specs.Part.{named};
-ghost use Rattle.settlement.specs.Promise.{lent};
+ghost use Rattle.rules.specs.Settlement.{lent};
 ghost use Rattle.exports.specs.Answers.{refusalAs, checkedAs, lookupAs, partAs, settledAs, SettlesAs};
+use record::RECORD;
 use rules::Checked;
 use rules::LookupAnswer;
 use rules::Name;
 use rules::Outcome;
 use rules::Refusal;
-
-const RECORD: usize = 138;
 
 // The number and the position of a refusal; number 0 says that there is none.
 #[repr(C)]

@@ -7,6 +7,9 @@ ghost use Rattle.rules.specs.Record.{number, first, decode as decoded, sumOf, n
 use rules::Name;
 use rules::Vertex;
 
+// The length of a record.
+pub const RECORD: usize = 138;
+
 // Where each field starts.
 const ROUND: usize = 0;
 

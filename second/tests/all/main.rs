@@ -10,4 +10,6 @@ mod past_f;
 mod plain;
 mod refusals;
 mod sizes;
+mod stored;
+mod text;
 mod vectors;

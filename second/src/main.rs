@@ -1,6 +1,7 @@
 //! The binary: the program of document 01, the generator's sub-commands, and those
 //! that ask the proved code.
 
+use second::draw::draw;
 use second::files;
 use second::generate::{input, Kind};
 use second::program::run;
@@ -16,6 +17,7 @@ const HELP: &str = "\
 second settle                        the program: reads n and a table, prints X or S, R, V lines
 second table FILE                    a table in the text form of examples/README.md, as an input of the program; - is standard input
 second text                          an input of the program, in the text form
+second draw FILE                     a table in the text form, as a picture (SVG)
 second generate --kind NAME --seed S writes an input of the program
 second shares --cases N --seed S     counts what generated tables reach
 second vectors FOLDER                writes the stored tables of crates/vectors, their names and answers
@@ -65,6 +67,7 @@ fn answer(words: &[&str]) -> Result<Output, String> {
         ["text"] => Ok(Output::of(
             text::of_input(&files::standard_input()?)?.into_bytes(),
         )),
+        ["draw", file] => Ok(Output::of(draw(&files::text(file)?).into_bytes())),
         ["generate", "--kind", name, "--seed", seed] => {
             let kind = Kind::from_name(name).ok_or_else(|| no_kind(name))?;
             Ok(Output::of(input(kind, number(seed)?)))

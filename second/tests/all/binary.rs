@@ -45,6 +45,14 @@ fn table_and_text_undo_each_other() {
 }
 
 #[test]
+fn draw_writes_a_picture() {
+    let output = second(&["draw", "-"], b"authors 4\nround 1 author 0\n");
+    assert!(output.status.success());
+    assert!(output.stdout.starts_with(b"<svg "));
+    assert!(output.stdout.ends_with(b"</svg>\n"));
+}
+
+#[test]
 fn a_wrong_text_is_told_with_file_and_line() {
     for (arguments, standard_input, told) in [
         (

@@ -2,6 +2,7 @@
 
 mod binary;
 mod calls;
+mod drawn;
 mod easy_errors;
 mod examples;
 mod generated;

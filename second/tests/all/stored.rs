@@ -63,6 +63,17 @@ fn the_folder_has_these_and_no_others() {
     assert_eq!(there, expected);
 }
 
+/// The folder's page says of each what it shows.
+#[test]
+fn each_is_listed() {
+    let page = std::fs::read_to_string(folder().join("README.md")).expect("README.md");
+    let rows: Vec<&str> = page.lines().filter(|line| line.starts_with('|')).collect();
+    for name in names() {
+        let listed = rows.iter().any(|row| row.contains(&format!("`{name}`")));
+        assert!(listed, "{name}");
+    }
+}
+
 fn ways(name: &str) -> (Table, Vec<Way>) {
     let Text { n, table, .. } = example(name);
     let table = Table::read(n, &table);

@@ -1,7 +1,7 @@
 //! The picture itself, part by part; each covers what was drawn before it.
 
 use super::grid::{Grid, FEW, RADIUS};
-use super::scene::{Reference, Scene};
+use super::scene::{Reference, Scene, Verdict};
 use super::style::{self, decided, Shade};
 use super::svg::{at, Point, Svg};
 use super::{AUTHORS_WIDTH, MARGIN};
@@ -50,8 +50,13 @@ impl<'a> Picture<'a> {
 
     fn author(&mut self, author: u8, from: Point, anchor: &str) {
         let number = format!("author {author}");
+        // Of a refused table it isn't said: there it may be one record twice.
+        let several = match self.scene.verdict {
+            Verdict::Settled { .. } => "equivocates",
+            Verdict::Refused(_) => "two in a round",
+        };
         let note = match self.equivocators.contains(&author) {
-            true => Some(("equivocates", style::EQUIVOCATING.line)),
+            true => Some((several, style::EQUIVOCATING.line)),
             false if author >= self.scene.n => Some(("no such author", style::FAULTY.line)),
             false => None,
         };

@@ -245,6 +245,10 @@ fn equivocators_are_seen() {
     let p9 = draw(&example("p09"));
     assert_eq!(p9.matches(">equivocates<").count(), 1);
     assert!(!p9.contains("More than f"));
+    // A record twice is refused, and nobody is accused.
+    let p12 = draw(&example("p12"));
+    assert_eq!(p12.matches(">two in a round<").count(), 1);
+    assert!(!p12.contains(">equivocates<"));
 }
 
 #[test]

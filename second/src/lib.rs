@@ -4,7 +4,8 @@
 //! `authors`, `record`, `check`, `table`, `decide`, `settle` and `program` are the
 //! rules; `rng`, `grow`, `damage`, `generate` and `shares` make random tables and
 //! show what these reach; `vectors` makes the stored tables of the crate of that name;
-//! `through` compares a built program with `program`.
+//! `through` compares a built program with `program`; `text` is a table to read and write by
+//! hand, `files` reads it, and `draw` makes a picture of it.
 //! With the feature `library`, `library` calls the proved code, `compare` asks both, and
 //! `bench` measures the proved check against `plain`; `settle_bench` the settlement against
 //! `plain_settle`, on honest tables and on those of `hostile`.
@@ -20,6 +21,8 @@ pub mod check;
 pub mod compare;
 pub mod damage;
 pub mod decide;
+pub mod draw;
+pub mod files;
 pub mod generate;
 pub mod grow;
 #[cfg(feature = "library")]
@@ -37,5 +40,6 @@ pub mod settle;
 pub mod settle_bench;
 pub mod shares;
 pub mod table;
+pub mod text;
 pub mod through;
 pub mod vectors;

@@ -59,6 +59,10 @@ V 1 0 1
     assert_eq!(p2().prints(), expected);
 }
 
+fn p3() -> Made {
+    p2().without(3, 3)
+}
+
 #[test]
 fn p3_three_certify() {
     let expected = "\
@@ -68,7 +72,11 @@ R 2 undecided
 R 3 undecided
 V 1 0 1
 ";
-    assert_eq!(p2().without(3, 3).prints(), expected);
+    assert_eq!(p3().prints(), expected);
+}
+
+fn p4() -> Made {
+    p3().without(3, 2)
 }
 
 #[test]
@@ -79,7 +87,7 @@ R 1 undecided
 R 2 undecided
 R 3 undecided
 ";
-    assert_eq!(p2().without(3, 3).without(3, 2).prints(), expected);
+    assert_eq!(p4().prints(), expected);
 }
 
 fn p5() -> Made {
@@ -165,8 +173,7 @@ V 4 3 1
     assert_eq!(p8().prints(), expected);
 }
 
-#[test]
-fn p9_a_second_leader_vertex() {
+fn p9() -> Made {
     let mut made = Made::new(4);
     made.put(1, 0, 1, &[]);
     made.put(1, 0, 2, &[]);
@@ -175,12 +182,17 @@ fn p9_a_second_leader_vertex() {
     made.one(2, 1, &[0, 1, 2, 3]);
     made.put(2, 2, 1, &[(0, 2), (1, 1), (2, 1), (3, 1)]);
     made.one(2, 3, &[1, 2, 3]);
+    made
+}
+
+#[test]
+fn p9_a_second_leader_vertex() {
     let expected = "\
 S 9 2 1 0 1
 R 1 undecided
 R 2 undecided
 ";
-    assert_eq!(made.prints(), expected);
+    assert_eq!(p9().prints(), expected);
 }
 
 /// A round 1 record with padding 1, and its sum off by this much.
@@ -205,19 +217,30 @@ fn p11_padding_and_the_sum_off() {
     assert_eq!(prints(4, &padded(0u16.wrapping_sub(256))), "X 4 0\n");
 }
 
-#[test]
-fn p12_a_record_twice() {
+fn p12() -> Made {
     let mut made = Made::new(4);
     made.some(1, &[0, 0]);
-    assert_eq!(made.prints(), "X 6 1\n");
+    made
+}
+
+#[test]
+fn p12_a_record_twice() {
+    assert_eq!(p12().prints(), "X 6 1\n");
+}
+
+/// Round 1 of authors 0, 1, 2, then a round 2 record of this author and with these
+/// references: P13 and P14.
+fn three_and_one(author: u8, authors: &[u8]) -> Made {
+    let mut made = Made::new(4);
+    made.some(1, &[0, 1, 2]);
+    made.one(2, author, authors);
+    made
 }
 
 #[test]
 fn p13_two_references() {
     for author in 0..4 {
-        let mut made = Made::new(4);
-        made.some(1, &[0, 1, 2]);
-        made.one(2, author, &[0, 1]);
+        let made = three_and_one(author, &[0, 1]);
         assert_eq!(made.prints(), "X 7 3\n");
     }
 }
@@ -225,11 +248,29 @@ fn p13_two_references() {
 #[test]
 fn p14_a_reference_to_no_record() {
     for author in 0..4 {
-        let mut made = Made::new(4);
-        made.some(1, &[0, 1, 2]);
-        made.one(2, author, &[1, 2, 3]);
+        let made = three_and_one(author, &[1, 2, 3]);
         assert_eq!(made.prints(), "X 8 3\n");
     }
+}
+
+/// The tables of P1 to P14, in this order; n is 4 in all of them.
+pub fn p_tables() -> [Vec<u8>; 14] {
+    [
+        Vec::new(),
+        p2().table(),
+        p3().table(),
+        p4().table(),
+        p5().table(),
+        p5().without(2, 3).table(),
+        p7().table(),
+        p8().table(),
+        p9().table(),
+        padded(0),
+        padded(1),
+        p12().table(),
+        three_and_one(0, &[0, 1]).table(),
+        three_and_one(0, &[1, 2, 3]).table(),
+    ]
 }
 
 #[test]

@@ -5,7 +5,7 @@ use Prim.Native.Nat.{ℕ}
 use mathlib.Core.Path.{_≡_, sym, _∙_}
 use mathlib.Core.List.{List}
 use Rattle.rules.specs.Settlement.{Buffers}
-use Rattle.record.proofs.Unique.{Only}
+use Rattle.rules.proofs.Only.{Only}
 use Rattle.exports.specs.declared.SettledNumbers.{SettledNumbers}
 use Rattle.exports.specs.Answers.{SettlesAs}
 use Rattle.exports.proofs.record_box_check.Kinds as check-kinds

@@ -1,5 +1,6 @@
 pub mod Names
 pub mod Refusals
+pub mod Only
 pub mod Records
 pub mod Accepted
 pub mod Support

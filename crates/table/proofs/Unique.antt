@@ -5,7 +5,7 @@ use mathlib.Core.Path.{_≡_, sym, _∙_}
 use mathlib.Core.List.{List}
 use Prim.Native.Nat.{ℕ}
 use denote.Ref.{RefT, ptr, now}
-use Rattle.record.proofs.Unique.{Only}
+use Rattle.rules.proofs.Only.{Only}
 use Rattle.table.proofs.place.Kinds as place-kinds
 use Rattle.table.proofs.place.Reads as place
 use Rattle.table.proofs.find.Kinds as find-kinds

@@ -1,10 +1,10 @@
 // The bytes of each printed line. Nothing is printed here: a line is put together by value and then copied into a buffer that the caller lends.
 ghost use mathlib.Core.Path.{_≡_};
 ghost use mathlib.Core.List.{[], _∷_, _++_};
-ghost use Prim.Native.Nat.{_+_, _<_};
+ghost use Prim.Native.Nat.{_+_, _<_, _≤_};
 ghost use lib.ListN.{length};
 ghost use Rattle.rules.specs.Program.{lineX, lineS};
-ghost use Rattle.report.specs.Lines.{lineUndecided, lineSkipped, lineCommitted, lineNamed};
+ghost use Rattle.report.specs.Lines.{lineWord, lineUndecided, lineSkipped, lineCommitted, lineNamed};
 ghost use Rattle.report.specs.Fills.{Fills};
 ghost use Rattle.report.specs.Text.{textOf, Room, Begun, Grown, Numbered, Spelled};
 use rules::Counts;
@@ -150,20 +150,27 @@ pub fn line_settled(c: Counts, out: &mut [u8]) -> usize
     ended(l, out)
 }
 
+// `R r word`
+fn line_word(round: u32, word: &[u8], out: &mut [u8]) -> usize
+    requires { ⌜ length (now word) ≤ 9 ⌝ }
+    ensures { λ k. ⌜ Fills (lineWord round (now (word .entry))) (now (out .entry)) (now (out .exit)) k ⌝ }
+{
+    let l = with_number(begun(b'R'), round as u64);
+    ended(with_word(l, word), out)
+}
+
 // `R r undecided`
 pub fn line_undecided(round: u32, out: &mut [u8]) -> usize
     ensures { λ k. ⌜ Fills (lineUndecided round) (now (out .entry)) (now (out .exit)) k ⌝ }
 {
-    let l = with_number(begun(b'R'), round as u64);
-    ended(with_word(l, b"undecided"), out)
+    line_word(round, b"undecided", out)
 }
 
 // `R r skip`
 pub fn line_skipped(round: u32, out: &mut [u8]) -> usize
     ensures { λ k. ⌜ Fills (lineSkipped round) (now (out .entry)) (now (out .exit)) k ⌝ }
 {
-    let l = with_number(begun(b'R'), round as u64);
-    ended(with_word(l, b"skip"), out)
+    line_word(round, b"skip", out)
 }
 
 // `R r commit author mark`

@@ -107,6 +107,7 @@ first-or f g h k e = first-by h k (min x y) (record { within = omega (arith, F .
     right : min x y < k → y < x → h (min x y) ≡ true
     right l t = let q : min x y ≡ y = omega arith in rw q (e y (omega arith) ∙ or-right _ _ (G .hit (omega arith)))
 
+-- none passes
 pub first-none : (f : ℕ → Bool) (k : ℕ) → ((p : ℕ) → p < k → f p ≡ false) → firstTo f k ≡ k
 first-none f k h = first-by f k k (record { within = le-refl k; before = h; hit = λ l. absurd (omega arith) })
 

@@ -14,7 +14,7 @@ use lib.Seq.{drop-drop, getD-drop, getD-set-same, getD-set-other, getD-append-ad
 use borrow.Author.Tests.{eqb-true, eqb-false, ne-eqb, leb-true, leb-false, le-leb, ltb-true, ltb-false, lt-ltb, le-ltb}
 use Rattle.folds.specs.Folds.{_and_, _or_, bit, anyTo, firstTo}
 use Rattle.folds.proofs.Tests.{by-test, not-both, failed, and-left, and-right, and-true, or-cases, or-left, or-right, or-false, not-true, is-not, both-ways}
-use Rattle.folds.proofs.Laws.{First, first-is, first-by, any-witness, any-intro, first-same}
+use Rattle.folds.proofs.Laws.{First, first-is, first-by, any-witness, any-intro, first-same, first-none}
 use Rattle.rules.specs.declared.Vertex.{Vertex}
 use Rattle.rules.specs.declared.Checked.the-variants.{Passed}
 use Rattle.rules.specs.Record.{number, first, decode, records, vertices, noVertex, at, nameOf}
@@ -106,9 +106,6 @@ first-or f g h k e = first-by h k (min x y) (record { within = omega (arith, F .
 
     right : min x y < k → y < x → h (min x y) ≡ true
     right l t = let q : min x y ≡ y = omega arith in rw q (e y (omega arith) ∙ or-right _ _ (G .hit (omega arith)))
-
-pub first-none : (f : ℕ → Bool) (k : ℕ) → ((p : ℕ) → p < k → f p ≡ false) → firstTo f k ≡ k
-first-none f k h = first-by f k k (record { within = le-refl k; before = h; hit = λ l. absurd (omega arith) })
 
 -- ---- what the members of a history certify
 

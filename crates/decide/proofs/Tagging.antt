@@ -1,18 +1,19 @@
 -- Tags: how a round's bytes are tagged one after the other, how the authors that have a tag are counted, and that the counts are those of
 -- the direct rules.
 -- Assumes nothing.
-use Prim.Native.Nat.{ℕ, _+_, _-_, _/_, _%_, _≤_, _<_}
+use Prim.Native.Nat.{ℕ, _+_, _-_, _/_, _%_, _≤_, _<_, min}
 use mathlib.Core.Path.{_≡_, refl, sym, ap, _∙_}
 use mathlib.Core.Bool.{Bool, true, false}
 use mathlib.Core.List.{List}
+use native.Mathlib.Numerals.{add-one}
 use native.Mathlib.Omega.{arith}
 use lib.Dec.{leb, ltb, eqb}
 use lib.ListN.{length, getD, set, length-set}
 use lib.Seq.{getD-set-same, getD-set-other}
 use borrow.Author.Tests.{eqb-true, eqb-false, ltb-true, ltb-false, eq-eqb, ne-eqb, lt-ltb, le-ltb}
-use Rattle.folds.specs.Folds.{_and_, bit, anyTo}
+use Rattle.folds.specs.Folds.{_and_, bit, anyTo, countTo}
 use Rattle.folds.proofs.Tests.{by-test, and-left, and-right, and-true, both-ways}
-use Rattle.folds.proofs.Laws.{any-witness, any-intro, any-next, any-same, count-same}
+use Rattle.folds.proofs.Laws.{any-witness, any-intro, any-same, any-count, count-yes, count-no, count-same}
 use Rattle.rules.specs.declared.Vertex.{Vertex}
 use Rattle.rules.specs.declared.Checked.the-variants.{Passed}
 use Rattle.rules.specs.Authors.{quorum}
@@ -63,7 +64,7 @@ pub bit-small : (b : Bool) → bit b < 128
 bit-small true = omega arith
 bit-small false = omega arith
 
--- ---- some byte from a position on has the tag
+-- ---- how many bytes from a position on have the tag
 
 abbrev pub taggedFrom : List ℕ → (from tag : ℕ) → ℕ → Bool
 taggedFrom m from tag i = eqb (tagAt m (from + i)) tag
@@ -72,13 +73,26 @@ module _ (m : List ℕ) (from tag q : ℕ) (l : from ≤ q) where
   place : from + (q - from) ≡ q
   place = omega arith
 
-  pub tag-next : anyTo (taggedFrom m from tag) (q - from) ≡ false → (tagAt m q ≡ tag → ⊥) → anyTo (taggedFrom m from tag) (q + 1 - from) ≡ false
-  tag-next e d =
-      let step : q + 1 - from ≡ q - from + 1 = omega arith in
-      rw step (any-next (taggedFrom m from tag) (q - from) (rw place (ne-eqb _ _ d)) e)
+  next : q + 1 - from ≡ q - from + 1
+  next = omega arith
 
-  pub tag-found : (to : ℕ) → q < to → tagAt m q ≡ tag → anyTo (taggedFrom m from tag) (to - from) ≡ true
+  pub tag-yes : (c : ℕ) → c ≡ countTo (taggedFrom m from tag) (q - from) → tagAt m q ≡ tag → c + 1 ≡ countTo (taggedFrom m from tag) (q + 1 - from)
+  tag-yes c h e = rw next (count-yes (taggedFrom m from tag) (q - from) c (rw place (eq-eqb _ _ e)) h)
+
+  pub tag-no : (c : ℕ) → c ≡ countTo (taggedFrom m from tag) (q - from) → (tagAt m q ≡ tag → ⊥) → c ≡ countTo (taggedFrom m from tag) (q + 1 - from)
+  tag-no c h d = rw next (count-no (taggedFrom m from tag) (q - from) c (rw place (ne-eqb _ _ d)) h)
+
+  tag-found : (to : ℕ) → q < to → tagAt m q ≡ tag → anyTo (taggedFrom m from tag) (to - from) ≡ true
   tag-found to h e = any-intro (taggedFrom m from tag) (to - from) (q - from) (omega arith) (rw place (eq-eqb _ _ e))
+
+-- counted once: whether there is one at all
+one-of : (c : ℕ) → min c 1 ≡ bit (ltb 0 c)
+one-of c = by-test (ltb 0 c) (λ e. rw e (omega (arith, ltb-true 0 c e))) (λ e. rw e (omega (arith, ltb-false 0 c e)))
+
+-- one author more
+pub author-next : (p : ℕ → Bool) (a c once : ℕ) → once ≡ bit (p a) → c ≡ countTo p a → c + once ≡ countTo p (a + 1)
+unfolding countTo
+author-next p a c once e h = rw (add-one a, e, h)
 
 -- a tag from 1 on for each position from b up to e
 window-test : (c p b e : ℕ) → b ≤ p → p < e → eqb (windowTag c b e) (p - b + 1) ≡ eqb c p
@@ -122,7 +136,7 @@ module _ (n : ℕ) (t : List ℕ) (ok : check first n t ≡ Passed) where
   }
 
   -- its vertices stand side by side
-  pub author-tagged : (k tag a : ℕ) (m : List ℕ) → anyTo (taggedFrom m (startOf t k a) tag) (startOf t k (a + 1) - startOf t k a) ≡ authorTagged vs k tag m a
+  author-tagged : (k tag a : ℕ) (m : List ℕ) → anyTo (taggedFrom m (startOf t k a) tag) (startOf t k (a + 1) - startOf t k a) ≡ authorTagged vs k tag m a
   author-tagged k tag a m = both-ways _ _ (λ e. there (any-witness _ _ e)) (λ e. back (any-witness _ _ e))
     where
       s : ℕ
@@ -137,6 +151,10 @@ module _ (n : ℕ) (t : List ℕ) (ok : check first n t ≡ Passed) where
       back (q, l, e) =
           let i = slot-in n t ok k a q (record { within = rw (← vertices-length first t) l; round = eqb-true _ _ (and-left _ _ (and-left _ _ e)); author = eqb-true _ _ (and-right _ _ (and-left _ _ e)) }) in
           tag-found m s tag q (i .from-on) (startOf t k (a + 1)) (i .up-to) (eqb-true _ _ (and-right _ _ e))
+
+  -- and they count once
+  pub author-once : (k tag a : ℕ) (m : List ℕ) → min (countTo (taggedFrom m (startOf t k a) tag) (startOf t k (a + 1) - startOf t k a)) 1 ≡ bit (authorTagged vs k tag m a)
+  author-once k tag a m = one-of _ ∙ ap bit (sym (any-count _ _) ∙ author-tagged k tag a m)
 
   -- ---- the counts of the direct rules
 

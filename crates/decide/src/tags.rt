@@ -1,10 +1,10 @@
 // Tags on the vertices of one round, kept in the lower part of the work bytes, and the count of different authors that have a tag.
 ghost use mathlib.Core.Path.{_≡_};
 ghost use mathlib.Core.Bool.{cond};
-ghost use Prim.Native.Nat.{_+_, _-_, _/_, _%_, _<_, _≤_};
+ghost use Prim.Native.Nat.{_+_, _-_, _/_, _%_, _<_, _≤_, min};
 ghost use lib.Dec.{eqb, ltb};
 ghost use lib.ListN.{length, getD};
-ghost use Rattle.folds.specs.Folds.{_and_, bit, anyTo};
+ghost use Rattle.folds.specs.Folds.{_and_, bit, countTo};
 ghost use Rattle.rules.specs.declared.Checked.the-variants.{Passed};
 ghost use Rattle.rules.specs.Record.{first, records, vertices, at, entry};
 ghost use Rattle.rules.specs.Check.{check};
@@ -84,20 +84,31 @@ pub(crate) fn tag_certified(
     }
 }
 
-// Some byte from one position up to another has the tag.
-fn some_tagged(marks: &[u8], from: usize, to: usize, tag: u8) -> bool
+// How many bytes from one position up to another have the tag.
+fn count_tagged(marks: &[u8], from: usize, to: usize, tag: u8) -> usize
     requires { ⌜ from ≤ to ⌝ }
     requires { ⌜ to ≤ length (now marks) ⌝ }
-    ensures { λ r. ⌜ r ≡ anyTo (λ i. eqb (tagAt (now (marks .entry)) (from + i)) tag) (to - from) ⌝ }
+    ensures { λ r. ⌜ r ≡ countTo (λ i. eqb (tagAt (now (marks .entry)) (from + i)) tag) (to - from) ⌝ }
 {
+    let mut c: usize = 0;
     let mut q = from;
     while q < to {
         if marks[q] % 128 == tag {
-            return true;
+            c += 1;
         }
         q += 1;
     }
-    false
+    c
+}
+
+// An author counts once, however many of its vertices have the tag.
+fn once(c: usize) -> usize
+    ensures { λ r. ⌜ r ≡ min c 1 ⌝ }
+{
+    if 1 < c {
+        return 1;
+    }
+    c
 }
 
 // How many different authors have a vertex of the round with the tag.
@@ -111,9 +122,7 @@ pub(crate) fn authors_tagged(n: u8, table: &[u8], round: u32, tag: u8, marks: &[
     while a < n {
         let from = begin(table, round, a);
         let to = begin(table, round, a + 1);
-        if some_tagged(marks, from, to, tag) {
-            c += 1;
-        }
+        c += once(count_tagged(marks, from, to, tag));
         a += 1;
     }
     c

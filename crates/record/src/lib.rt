@@ -66,10 +66,10 @@ fn rest(b: &[u8], i: usize) -> &[u8]
 pub fn byte_at(b: &[u8], i: usize) -> u8
     ensures { λ r. ⌜ r ≡ getD (now (b .entry)) i 0 ⌝ }
 {
-    if i < b.len() {
-        return b[i];
+    if b.len() <= i {
+        return 0;
     }
-    0
+    b[i]
 }
 
 // The two bytes from byte i on as a number. Only near the end are they read one by one.

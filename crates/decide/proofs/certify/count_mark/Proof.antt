@@ -50,7 +50,10 @@ loop-again c =
     let l = c .before .before in
     let p = mark-at (l .before .args .t1) (l .before .args .mark) in
     ⊎-elim
-    (λ w. let t : p (l .loop .i) ≡ true = eq-eqb _ _ (w .0 .taken) in (omega arith, omega arith, w .1 ∙ count-yes p (l .loop .i) (l .loop .c) t (l .loop .inv .2)))
+    (λ w.
+    let same : getD (l .before .args .t1) (l .loop .i) 0 ≡ l .before .args .mark = omega (arith, w .0 .taken) in
+    let t : p (l .loop .i) ≡ true = eq-eqb _ _ same in
+    (omega arith, omega arith, w .1 ∙ count-yes p (l .loop .i) (l .loop .c) t (l .loop .inv .2)))
     (λ w. let t : p (l .loop .i) ≡ false = ne-eqb _ _ (w .0 .left) in (omega arith, omega arith, w .1 ∙ count-no p (l .loop .i) (l .loop .c) t (l .loop .inv .2)))
     (c .if1 .came)
 

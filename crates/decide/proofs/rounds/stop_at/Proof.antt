@@ -34,7 +34,8 @@ loop-again : tie.Need-loop-again Inv-loop μ-loop
 loop-again c =
     let l = c .before .before .before in
     let a = l .before .args in
-    (omega arith, stop-more (a .cells .now) (a .from) (l .loop .t) (l .loop .inv .1) (c .if2 .left))
+    let skipped : getD (a .cells .now) (l .loop .t) 0 ≡ 1 = omega (arith, c .if2 .left) in
+    (omega arith, stop-more (a .cells .now) (a .from) (l .loop .t) (l .loop .inv .1) skipped)
 
 returns : tie.Need-returns Inv-loop μ-loop
 returns c =

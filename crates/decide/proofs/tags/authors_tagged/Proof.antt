@@ -1,16 +1,16 @@
 -- `decide::tags::authors_tagged` meets its contract. The loop's invariant: c of the first a authors have a vertex of the round with the tag.
 -- The measure is the authors that are left.
 -- Assumes nothing.
-use Prim.Native.Nat.{_+_, _-_, _≤_}
-use mathlib.Core.Path.{_≡_, refl, sym, _∙_}
-use mathlib.Core.Logic.{inr, ⊎-elim}
-use Rattle.folds.specs.Folds.{countTo}
-use Rattle.folds.proofs.Laws.{count-start, count-yes, count-no}
+use Prim.Native.Nat.{_+_, _-_, _≤_, min}
+use mathlib.Core.Path.{_≡_, refl, sym, ap, _∙_}
+use mathlib.Core.Logic.{inr}
+use Rattle.folds.specs.Folds.{bit, countTo}
+use Rattle.folds.proofs.Laws.{count-start}
 use Rattle.rules.specs.Record.{first, vertices}
 use Rattle.decide.specs.Range.{startOf}
 use Rattle.decide.specs.Work.{authorsTagged}
 use Rattle.decide.proofs.Ranges.{start-bound, start-mono}
-use Rattle.decide.proofs.Tagging.{authorTagged, author-tagged}
+use Rattle.decide.proofs.Tagging.{authorTagged, author-next, author-once}
 use native.Mathlib.Omega.{arith}
 use borrow.Author.Needs.{needs}
 use Rattle.decide.proofs.tags.authors_tagged.Statement.{statement}
@@ -34,14 +34,17 @@ add-begin c = search needs
 begin-requires-2 : tie.Need-begin-requires-2 Inv-loop μ-loop
 begin-requires-2 c κs = search needs
 
-some-tagged-requires : tie.Need-some-tagged-requires Inv-loop μ-loop
-some-tagged-requires c κs =
+count-tagged-requires : tie.Need-count-tagged-requires Inv-loop μ-loop
+count-tagged-requires c κs =
     let l = c .before .before .before in
     let s = l .before .before .before in
     let a = s .args in
     let t = a .table .now in
     let m : startOf t (a .round) (l .loop .a) ≤ startOf t (a .round) (l .loop .a + 1) = start-mono (a .n) t (s .pre .0) (a .round) (l .loop .a) (a .round) (l .loop .a + 1) (inr (refl, omega arith)) in
     (omega (arith, m, c .before .begin .ensures, c .begin2 .ensures), omega (arith, s .pre .1, c .begin2 .ensures, start-bound (a .n) t (s .pre .0) (a .round) (l .loop .a + 1)))
+
+once-requires : tie.Need-once-requires Inv-loop μ-loop
+once-requires c κs = search needs
 
 add-c : tie.Need-add-c Inv-loop μ-loop
 add-c c = search needs
@@ -60,11 +63,8 @@ loop-again c =
     let a = s .args in
     let t = a .table .now in
     let p = authorTagged (vertices first t) (a .round) (a .tag) (a .marks .now) in
-    let e : f .some-tagged .result ≡ p (l .loop .a) = f .some-tagged .ensures ∙ rw (f .before .before .begin .ensures, f .before .begin2 .ensures) (author-tagged (a .n) t (s .pre .0) (a .round) (a .tag) (l .loop .a) (a .marks .now)) in
-    ⊎-elim
-    (λ w. (omega arith, omega arith, w .1 ∙ count-yes p (l .loop .a) (l .loop .c) (sym e ∙ w .0 .taken) (l .loop .inv .2)))
-    (λ w. (omega arith, omega arith, w .1 ∙ count-no p (l .loop .a) (l .loop .c) (sym e ∙ w .0 .left) (l .loop .inv .2)))
-    (c .if1 .came)
+    let one : c .once .result ≡ bit (p (l .loop .a)) = c .once .ensures ∙ ap (λ k. min k 1) (f .count-tagged .ensures) ∙ rw (f .before .before .begin .ensures, f .before .begin2 .ensures) (author-once (a .n) t (s .pre .0) (a .round) (a .tag) (l .loop .a) (a .marks .now)) in
+    (omega arith, omega (arith, c .once .ensures), author-next p (l .loop .a) (l .loop .c) (c .once .result) one (l .loop .inv .2))
 
 returns : tie.Need-returns Inv-loop μ-loop
 unfolding authorsTagged
@@ -83,7 +83,8 @@ authors-tagged-spec =
     begin-requires
     add-begin
     begin-requires-2
-    some-tagged-requires
+    count-tagged-requires
+    once-requires
     add-c
     add-a
     loop-less

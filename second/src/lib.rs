@@ -20,6 +20,7 @@ pub mod check;
 pub mod compare;
 pub mod damage;
 pub mod decide;
+pub mod examples;
 pub mod generate;
 pub mod grow;
 #[cfg(feature = "library")]
@@ -27,6 +28,7 @@ pub mod hostile;
 #[cfg(feature = "library")]
 #[allow(unsafe_code)]
 pub mod library;
+pub mod made;
 pub mod plain;
 pub mod plain_settle;
 pub mod program;

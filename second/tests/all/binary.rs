@@ -1,6 +1,6 @@
 //! The binary's sub-commands.
 
-use crate::made::{p2, p7};
+use second::examples::{p2, p7};
 use second::generate::{input, Kind};
 use std::io::Write;
 use std::process::{Command, Output, Stdio};

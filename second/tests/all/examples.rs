@@ -1,6 +1,7 @@
 //! The examples of document 01: sums, P1 to P14, and those that are run.
 
-use crate::made::{p2, p7, p8, prints, vertex, Made};
+use second::examples::{p12, p13_or_p14, p2, p3, p4, p5, p7, p8, p9, padded};
+use second::made::{prints, vertex};
 use second::record::{decode, encode, encode_mended, sum_of};
 
 #[test]
@@ -68,7 +69,7 @@ R 2 undecided
 R 3 undecided
 V 1 0 1
 ";
-    assert_eq!(p2().without(3, 3).prints(), expected);
+    assert_eq!(p3().prints(), expected);
 }
 
 #[test]
@@ -79,16 +80,7 @@ R 1 undecided
 R 2 undecided
 R 3 undecided
 ";
-    assert_eq!(p2().without(3, 3).without(3, 2).prints(), expected);
-}
-
-fn p5() -> Made {
-    let mut made = Made::new(4);
-    made.some(1, &[1, 2, 3]);
-    for author in 1..=3 {
-        made.one(2, author, &[1, 2, 3]);
-    }
-    made
+    assert_eq!(p4().prints(), expected);
 }
 
 #[test]
@@ -167,28 +159,12 @@ V 4 3 1
 
 #[test]
 fn p9_a_second_leader_vertex() {
-    let mut made = Made::new(4);
-    made.put(1, 0, 1, &[]);
-    made.put(1, 0, 2, &[]);
-    made.some(1, &[1, 2, 3]);
-    made.one(2, 0, &[1, 2, 3]);
-    made.one(2, 1, &[0, 1, 2, 3]);
-    made.put(2, 2, 1, &[(0, 2), (1, 1), (2, 1), (3, 1)]);
-    made.one(2, 3, &[1, 2, 3]);
     let expected = "\
 S 9 2 1 0 1
 R 1 undecided
 R 2 undecided
 ";
-    assert_eq!(made.prints(), expected);
-}
-
-/// A round 1 record with padding 1, and its sum off by this much.
-fn padded(off: u16) -> Vec<u8> {
-    let mut padded = vertex(1, 0, 1, &[]);
-    padded.padding = 1;
-    padded.sum = sum_of(&encode(&padded)).wrapping_add(off);
-    encode(&padded).to_vec()
+    assert_eq!(p9().prints(), expected);
 }
 
 #[test]
@@ -207,28 +183,20 @@ fn p11_padding_and_the_sum_off() {
 
 #[test]
 fn p12_a_record_twice() {
-    let mut made = Made::new(4);
-    made.some(1, &[0, 0]);
-    assert_eq!(made.prints(), "X 6 1\n");
+    assert_eq!(p12().prints(), "X 6 1\n");
 }
 
 #[test]
 fn p13_two_references() {
     for author in 0..4 {
-        let mut made = Made::new(4);
-        made.some(1, &[0, 1, 2]);
-        made.one(2, author, &[0, 1]);
-        assert_eq!(made.prints(), "X 7 3\n");
+        assert_eq!(p13_or_p14(author, &[0, 1]).prints(), "X 7 3\n");
     }
 }
 
 #[test]
 fn p14_a_reference_to_no_record() {
     for author in 0..4 {
-        let mut made = Made::new(4);
-        made.some(1, &[0, 1, 2]);
-        made.one(2, author, &[1, 2, 3]);
-        assert_eq!(made.prints(), "X 8 3\n");
+        assert_eq!(p13_or_p14(author, &[1, 2, 3]).prints(), "X 8 3\n");
     }
 }
 

@@ -1,8 +1,8 @@
 //! What must hold of every generated table.
 
-use crate::made::{prints, settled, Settled};
 use second::check::check;
 use second::generate::{input, lent, question, table, Kind};
+use second::made::{prints, settled, Settled};
 use second::program::run;
 use second::record::{decode, encode_mended, Name, Vertex};
 use second::rng::Rng;

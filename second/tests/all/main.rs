@@ -5,7 +5,6 @@ mod calls;
 mod easy_errors;
 mod examples;
 mod generated;
-mod made;
 mod past_f;
 mod plain;
 mod refusals;

@@ -147,11 +147,12 @@ pub fn skipped_in_between() -> Made {
     made
 }
 
-/// Two support mark 1 and two mark 2; four reference the leader one way or other.
-pub fn support_split() -> Made {
+/// Round 1 has two vertices of the leader, and each author of round 2 supports the one
+/// with this mark.
+pub fn supporting(leader_marks: [u32; 4]) -> Made {
     let mut made = two_leader_vertices(1, 2);
-    for (author, leader_mark) in [(0, 1), (1, 1), (2, 2), (3, 2)] {
-        made.put(2, author, 1, &[(0, leader_mark), (1, 1), (2, 1), (3, 1)]);
+    for (author, mark) in (0..).zip(leader_marks) {
+        made.put(2, author, 1, &[(0, mark), (1, 1), (2, 1), (3, 1)]);
     }
     made.full(3);
     made

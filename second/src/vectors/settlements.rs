@@ -5,7 +5,7 @@ use crate::check::{check, Refusal};
 use crate::examples::{
     blank_and_certified, blank_by_two_authors, blank_with_an_anchor, both_certified,
     both_in_the_anchors_history, certified_by_two_authors, p12, p13_or_p14, p2, p3, p4, p5, p6, p7,
-    p7_up_to, p8, p9, padded, skipped_in_between, support_split, tallest,
+    p7_up_to, p8, p9, padded, skipped_in_between, supporting, tallest,
     the_higher_in_the_anchors_history, twins_alone, twins_certified, twins_through_an_anchor,
     undecided_in_between,
 };
@@ -186,7 +186,8 @@ fn easy_errors() -> Vec<Vector> {
         in_two("search_not_from_two_rounds_on", p7_up_to(5)),
         in_two("undecided_round_stops_the_search", undecided_in_between()),
         in_two("skipped_round_does_not", skipped_in_between()),
-        in_two("support_split_between_two", support_split()),
+        in_two("support_split_between_two", supporting([1, 1, 2, 2])),
+        in_two("support_for_the_second", supporting([1, 2, 2, 2])),
     ]
 }
 

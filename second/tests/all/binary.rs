@@ -77,7 +77,8 @@ fn unknown_arguments_are_told() {
 #[cfg(not(feature = "library"))]
 #[test]
 fn without_the_library_is_told() {
-    for arguments in [&["compare", "--cases", "1", "--seed", "1"][..], &["bench"]] {
+    let compare = ["compare", "--cases", "1", "--seed", "1"];
+    for arguments in [&compare[..], &["attack"], &["bench"]] {
         let output = second(arguments, &[]);
         assert_eq!(output.status.code(), Some(2), "{arguments:?}");
         assert!(output.stdout.is_empty());

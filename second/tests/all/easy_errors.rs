@@ -3,7 +3,7 @@
 
 use second::examples::{
     blank_by_two_authors, certified_by_two_authors, p7, p7_up_to, p8, skipped_in_between,
-    support_split, undecided_in_between,
+    supporting, undecided_in_between,
 };
 use second::made::Made;
 
@@ -138,21 +138,12 @@ R 1 undecided
 R 2 undecided
 R 3 undecided
 ";
-    assert_eq!(support_split().prints(), expected);
+    assert_eq!(supporting([1, 1, 2, 2]).prints(), expected);
 }
 
 /// The second of the leader's vertices is the one with support.
 #[test]
 fn the_supported_mark_is_committed() {
-    let mut made = Made::new(4);
-    made.put(1, 0, 1, &[]);
-    made.put(1, 0, 2, &[]);
-    made.some(1, &[1, 2, 3]);
-    for author in 0..4 {
-        let leader_mark = if author == 0 { 1 } else { 2 };
-        made.put(2, author, 1, &[(0, leader_mark), (1, 1), (2, 1), (3, 1)]);
-    }
-    made.full(3);
     let expected = "\
 S 13 3 2 1 1
 R 1 commit 0 2
@@ -160,7 +151,7 @@ R 2 undecided
 R 3 undecided
 V 1 0 2
 ";
-    assert_eq!(made.prints(), expected);
+    assert_eq!(supporting([1, 2, 2, 2]).prints(), expected);
 }
 
 /// A vertex of round 3 with references to two supporters and one other does not

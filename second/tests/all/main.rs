@@ -1,5 +1,6 @@
 //! All tests, as one program.
 
+mod attack;
 mod binary;
 mod calls;
 mod easy_errors;

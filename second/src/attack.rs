@@ -12,7 +12,7 @@ use std::fmt::{Display, Formatter};
 /// Cases of one family, one after another.
 type Family = fn(&mut Attack);
 
-const FAMILIES: [(&str, Family); 9] = [
+const FAMILIES: [(&str, Family); 10] = [
     ("every bit of 13 records with twins", families::bits),
     ("every bit of P7, sums right", families::bits_behind_the_sum),
     ("all small tables", families::small_tables),
@@ -21,6 +21,7 @@ const FAMILIES: [(&str, Family); 9] = [
         "all graphs below an anchor",
         families::graphs_below_an_anchor,
     ),
+    ("all graphs past f", families::graphs_past_f),
     ("random bytes of every length", families::noise),
     ("random fields, sums right", families::random_fields),
     ("buffers of every size", families::buffers),
@@ -109,7 +110,7 @@ impl Done {
     fn fail(&mut self, case: Case, difference: String) {
         self.failed += 1;
         let smaller = |(other, _): &(Case, String)| case.table.len() < other.table.len();
-        if self.smallest.as_ref().map_or(true, smaller) {
+        if self.smallest.as_ref().is_none_or(smaller) {
             self.smallest = Some((case, difference));
         }
     }

@@ -5,7 +5,7 @@ use crate::ask::Case;
 use crate::authors::AUTHOR_COUNTS;
 use crate::check::check;
 use crate::damage::Record;
-use crate::examples::{p13_or_p14, p2, p7, p9, padded, supporting};
+use crate::examples::{all, p13_or_p14, p2, p7, p9, padded, supporting};
 use crate::generate::Lent;
 use crate::made::{vertex, Made};
 use crate::record::{decode, encode_mended, mend, Vertex, RECORD_BYTES};
@@ -202,6 +202,26 @@ pub fn graphs_below_an_anchor(attack: &mut Attack) {
     }
 }
 
+/// More than f equivocators: each author has two vertices in round 2, each of which
+/// supports none of the leader's two, the first or the second; and two in round 3, which
+/// reference all the first ones and all the second ones of round 2.
+pub fn graphs_past_f(attack: &mut Attack) {
+    for supports in choices(9) {
+        let mut made = two_rounds([3; 4]);
+        for (author, support) in (0..).zip(supports) {
+            for (mark, leader_mark) in [(1, support % 3), (2, support / 3)] {
+                let references = [(0, leader_mark as u32), (1, 1), (2, 1), (3, 1)];
+                made.put(2, author, mark, &references);
+            }
+        }
+        for author in 0..4 {
+            made.put(3, author, 1, &all(1));
+            made.put(3, author, 2, &all(2));
+        }
+        attack.ask(4, &made.table());
+    }
+}
+
 // ---- noise
 
 /// Every length up to 2,000, with each n of 256 in turn and with one that is a count.
@@ -229,7 +249,10 @@ pub fn random_fields(attack: &mut Attack) {
 }
 
 fn any_vertex(n: u8, rng: &mut Rng) -> Vertex {
-    let round = rng.pick(&[1, 1, 1, 1, 2, 2, 2, 3, 0, 1_401]);
+    let round = match rng.chance(98) {
+        true => rng.pick(&[1, 1, 1, 1, 2, 2, 2, 3]),
+        false => rng.pick(&[0, 5, 1_400, 1_401, u32::MAX]),
+    };
     let author = match rng.chance(98) {
         true => rng.below(usize::from(n)) as u8,
         false => rng.byte(),
@@ -237,7 +260,7 @@ fn any_vertex(n: u8, rng: &mut Rng) -> Vertex {
     let mut vertex = vertex(round, author, rng.pick(&[1, 1, 1, 2, 0x1_0000]), &[]);
     if round > 1 || rng.chance(2) {
         for entry in &mut vertex.refs[..usize::from(n)] {
-            *entry = rng.pick(&[1, 1, 1, 1, 0, 2]);
+            *entry = rng.pick(&[1, 1, 1, 1, 1, 1, 0, 2]);
         }
     }
     vertex.batches = rng.word() as u16;
@@ -304,34 +327,33 @@ fn filled(cells: usize, order: usize, taken: usize) -> Lent {
 
 // ---- every n, and names
 
+/// Each table with every n, and with its own n each of many names.
 pub fn counts_and_names(attack: &mut Attack) {
     let tables = [
-        Vec::new(),
-        vec![0],
-        p7().table(),
-        twins().table(),
-        Made::full_rounds(7, 28).table(),
-        Made::full_rounds(31, 100).table(),
-        padded(0),
+        (4, Vec::new()),
+        (4, vec![0]),
+        (4, p7().table()),
+        (4, twins().table()),
+        (7, Made::full_rounds(7, 28).table()),
+        (31, Made::full_rounds(31, 100).table()),
+        (4, padded(0)),
     ];
-    for n in 0..=255 {
-        for table in &tables {
+    for (own, table) in &tables {
+        for n in 0..=255 {
             attack.ask(n, table);
         }
-    }
-    for table in &tables {
-        names(attack, table);
+        names(attack, *own, table);
     }
 }
 
 /// Names that are there, next to them, and far from them.
-fn names(attack: &mut Attack, table: &[u8]) {
+fn names(attack: &mut Attack, n: u8, table: &[u8]) {
     for round in [0, 1, 2, 3, 4, 5, 6, 7, 256, u32::MAX] {
         for author in [0, 1, 2, 3, 4, 30, 31, 255] {
             for mark in [0, 1, 2, 3, 257, u32::MAX] {
                 let case = Case {
                     name: (round, author, mark),
-                    ..Case::drawn(4, table.to_vec(), 0)
+                    ..Case::drawn(n, table.to_vec(), 0)
                 };
                 attack.ask_case(case);
             }

@@ -12,7 +12,7 @@ use std::fmt::{Display, Formatter};
 /// Cases of one family, one after another.
 type Family = fn(&mut Attack);
 
-const FAMILIES: [(&str, Family); 10] = [
+const FAMILIES: [(&str, Family); 11] = [
     ("every bit of 13 records with twins", families::bits),
     ("every bit of P7, sums right", families::bits_behind_the_sum),
     ("all small tables", families::small_tables),
@@ -22,6 +22,10 @@ const FAMILIES: [(&str, Family); 10] = [
         families::graphs_below_an_anchor,
     ),
     ("all graphs past f", families::graphs_past_f),
+    (
+        "the same below an anchor",
+        families::graphs_past_f_below_an_anchor,
+    ),
     ("random bytes of every length", families::noise),
     ("random fields, sums right", families::random_fields),
     ("buffers of every size", families::buffers),

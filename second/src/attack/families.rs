@@ -183,42 +183,67 @@ pub fn graphs(attack: &mut Attack) {
     }
 }
 
-/// The same where all are there, and three rounds more, so that round 4 is committed;
-/// its leader references all of round 3, or all but author 0.
+/// The same where all are there, and below an anchor.
 pub fn graphs_below_an_anchor(attack: &mut Attack) {
     for supports in choices(3) {
         for certifies in choices(3) {
             let mut made = two_rounds(supports);
             third_round(&mut made, certifies);
-            for anchor in [&[0, 1, 2, 3][..], &[1, 2, 3]] {
-                let mut made = made.clone();
-                made.some(4, &[0, 1, 2]);
-                made.one(4, 3, anchor);
-                made.full(5);
-                made.full(6);
-                attack.ask(4, &made.table());
-            }
+            below_an_anchor(attack, &made);
         }
     }
 }
 
-/// More than f equivocators: each author has two vertices in round 2, each of which
-/// supports none of the leader's two, the first or the second; and two in round 3, which
+/// Three rounds more, so that round 4 is committed. Its leader references all of round
+/// 3, or all but author 0.
+fn below_an_anchor(attack: &mut Attack, three_rounds: &Made) {
+    for anchor in [&[0, 1, 2, 3][..], &[1, 2, 3]] {
+        let mut made = three_rounds.clone();
+        made.some(4, &[0, 1, 2]);
+        made.one(4, 3, anchor);
+        made.full(5);
+        made.full(6);
+        attack.ask(4, &made.table());
+    }
+}
+
+/// Each author has two vertices in round 2. A pair says which of the leader's two the
+/// first one supports and which the second one, 0 for none.
+fn two_rounds_past_f(supports: [(u32, u32); 4]) -> Made {
+    let mut made = two_rounds([3; 4]);
+    for (author, (first, second)) in (0..).zip(supports) {
+        made.put(2, author, 1, &[(0, first), (1, 1), (2, 1), (3, 1)]);
+        made.put(2, author, 2, &[(0, second), (1, 1), (2, 1), (3, 1)]);
+    }
+    made
+}
+
+/// More than f equivocators: each author has two vertices in round 3 too, which
 /// reference all the first ones and all the second ones of round 2.
 pub fn graphs_past_f(attack: &mut Attack) {
     for supports in choices(9) {
-        let mut made = two_rounds([3; 4]);
-        for (author, support) in (0..).zip(supports) {
-            for (mark, leader_mark) in [(1, support % 3), (2, support / 3)] {
-                let references = [(0, leader_mark as u32), (1, 1), (2, 1), (3, 1)];
-                made.put(2, author, mark, &references);
-            }
-        }
+        let pairs = supports.map(|pair| (pair as u32 % 3, pair as u32 / 3));
+        let mut made = two_rounds_past_f(pairs);
         for author in 0..4 {
             made.put(3, author, 1, &all(1));
             made.put(3, author, 2, &all(2));
         }
         attack.ask(4, &made.table());
+    }
+}
+
+/// The same with one vertex of each author in round 3, which references the first ones,
+/// the second ones or some of both, below an anchor.
+pub fn graphs_past_f_below_an_anchor(attack: &mut Attack) {
+    let both = [(0, 1), (1, 2), (2, 2), (3, 1)];
+    for supports in choices(2) {
+        for references in choices(3) {
+            let mut made = two_rounds_past_f(supports.map(|pair| [(1, 2), (2, 1)][pair]));
+            for (author, choice) in (0..).zip(references) {
+                made.put(3, author, 1, &[all(1), all(2), both][choice]);
+            }
+            below_an_anchor(attack, &made);
+        }
     }
 }
 

@@ -3,12 +3,11 @@
 use super::Attack;
 use crate::ask::Case;
 use crate::authors::AUTHOR_COUNTS;
-use crate::check::check;
 use crate::damage::Record;
 use crate::examples::{all, p13_or_p14, p2, p7, p9, padded, supporting};
-use crate::generate::Lent;
+use crate::generate::{needed, Lent};
 use crate::made::{vertex, Made};
-use crate::record::{decode, encode_mended, mend, Vertex, RECORD_BYTES};
+use crate::record::{encode_mended, mend, Vertex, RECORD_BYTES};
 use crate::rng::Rng;
 
 // ---- damage
@@ -323,16 +322,6 @@ pub fn buffers(attack: &mut Attack) {
                 }
             }
         }
-    }
-}
-
-/// How many cells, and how many places and bytes.
-fn needed(n: u8, table: &[u8]) -> (usize, usize) {
-    let records = table.len() / RECORD_BYTES;
-    let last = table.chunks(RECORD_BYTES).last();
-    match check(n, table) {
-        Ok(()) => (last.map_or(0, |r| decode(r).round as usize), records),
-        Err(_) => (records, records),
     }
 }
 

@@ -1,7 +1,7 @@
 //! The settlements among the stored tables: what is printed of each, and the tables.
 
 use super::{Lengths, Question, Vector};
-use crate::check::{check, Refusal};
+use crate::check::Refusal;
 use crate::examples::{
     blank_and_certified, blank_by_two_authors, blank_with_an_anchor, both_certified,
     both_in_the_anchors_history, certified_by_two_authors, p12, p13_or_p14, p2, p3, p4, p5, p6, p7,
@@ -9,10 +9,9 @@ use crate::examples::{
     the_higher_in_the_anchors_history, twins_alone, twins_certified, twins_through_an_anchor,
     undecided_in_between,
 };
-use crate::generate::Lent;
+use crate::generate::{needed, Lent};
 use crate::made::Made;
 use crate::program::lines;
-use crate::record::{decode, RECORD_BYTES};
 use crate::settle::{settle, Outcome};
 
 // ---- what is printed
@@ -86,17 +85,9 @@ impl Size {
     }
 }
 
-/// What a table needs. Of a refused one no length is asked; it gets as many as it has
-/// records.
+/// Beside what the table needs.
 fn lengths(n: u8, table: &[u8], [cells, order, taken]: [Size; 3]) -> Lengths {
-    let records = table.len() / RECORD_BYTES;
-    let rounds = match check(n, table) {
-        Ok(()) => {
-            let last = table.chunks(RECORD_BYTES).last();
-            last.map_or(0, |record| decode(record).round) as usize
-        }
-        Err(_) => records,
-    };
+    let (rounds, records) = needed(n, table);
     Lengths {
         cells: cells.of(rounds),
         order: order.of(records),

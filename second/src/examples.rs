@@ -102,6 +102,26 @@ pub fn p13_or_p14(author: u8, authors: &[u8]) -> Made {
     made
 }
 
+/// The tables of P1 to P14, in this order.
+pub fn p_tables() -> [Vec<u8>; 14] {
+    [
+        Vec::new(),
+        p2().table(),
+        p3().table(),
+        p4().table(),
+        p5().table(),
+        p6().table(),
+        p7().table(),
+        p8().table(),
+        p9().table(),
+        padded(0),
+        padded(1),
+        p12().table(),
+        p13_or_p14(0, &[0, 1]).table(),
+        p13_or_p14(0, &[1, 2, 3]).table(),
+    ]
+}
+
 // ---- easy errors
 
 /// Three vertices of round 3 certify, of two authors.

@@ -5,8 +5,9 @@
 //! rules; `rng`, `grow`, `damage`, `generate` and `shares` make random tables and
 //! show what these reach; `made` and `examples` make tables by hand, and `vectors` the
 //! stored tables of the crate of that name; `through` compares a built program with
-//! `program`; `answers` and `ask` compare any calls with the rules, `compare` on random
-//! tables and `attack` on whole families.
+//! `program`; `text` is a table to read and write by hand, `files` reads it, and `draw`
+//! makes a picture of it; `answers` and `ask` compare any calls with the rules, `compare`
+//! on random tables and `attack` on whole families.
 //! With the feature `library`, `library` calls the proved code, and
 //! `bench` measures the proved check against `plain`; `settle_bench` the settlement against
 //! `plain_settle`, on honest tables and on those of `hostile`.
@@ -24,7 +25,9 @@ pub mod check;
 pub mod compare;
 pub mod damage;
 pub mod decide;
+pub mod draw;
 pub mod examples;
+pub mod files;
 pub mod generate;
 pub mod grow;
 #[cfg(feature = "library")]
@@ -43,5 +46,6 @@ pub mod settle;
 pub mod settle_bench;
 pub mod shares;
 pub mod table;
+pub mod text;
 pub mod through;
 pub mod vectors;

@@ -1,17 +1,23 @@
 //! The binary: the program of document 01, the generator's sub-commands, and those
 //! that ask the proved code.
 
+use second::draw::draw;
+use second::files;
 use second::generate::{input, Kind};
 use second::program::run;
 use second::shares::shares;
+use second::text;
 use second::through::through;
 use second::vectors;
-use std::io::{Read, Write};
+use std::io::Write;
 use std::path::Path;
 use std::process::ExitCode;
 
 const HELP: &str = "\
 second settle                        the program: reads n and a table, prints X or S, R, V lines
+second table FILE                    a table in the text form of examples/README.md, as an input of the program; - is standard input
+second text                          an input of the program, in the text form
+second draw FILE                     a table in the text form, as a picture (SVG)
 second generate --kind NAME --seed S writes an input of the program
 second shares --cases N --seed S     counts what generated tables reach
 second vectors FOLDER                writes the stored tables of crates/vectors, their names and answers
@@ -57,14 +63,12 @@ fn fail(message: &str, status: u8) -> ExitCode {
 /// What is printed, or what is wrong with the arguments.
 fn answer(words: &[&str]) -> Result<Output, String> {
     match words {
-        ["settle"] => {
-            let mut read = Vec::new();
-            let mut standard_input = std::io::stdin().lock();
-            match standard_input.read_to_end(&mut read) {
-                Ok(_) => Ok(Output::of(run(&read))),
-                Err(error) => Err(error.to_string()),
-            }
-        }
+        ["settle"] => Ok(Output::of(run(&files::standard_input()?))),
+        ["table", file] => Ok(Output::of(files::text(file)?.input())),
+        ["text"] => Ok(Output::of(
+            text::of_input(&files::standard_input()?)?.into_bytes(),
+        )),
+        ["draw", file] => Ok(Output::of(draw(&files::text(file)?).into_bytes())),
         ["generate", "--kind", name, "--seed", seed] => {
             let kind = Kind::from_name(name).ok_or_else(|| no_kind(name))?;
             Ok(Output::of(input(kind, number(seed)?)))

@@ -5,7 +5,7 @@ use Prim.Native.Nat.{ℕ}
 use mathlib.Core.Path.{_≡_, sym, _∙_}
 use mathlib.Core.List.{List}
 use Rattle.rules.specs.Settlement.{Buffers}
-use Rattle.record.proofs.Unique.{Only}
+use Rattle.rules.proofs.Only.{Only}
 use Rattle.exports.specs.declared.SettledNumbers.{SettledNumbers}
 use Rattle.exports.specs.Answers.{SettlesAs}
 use Rattle.exports.proofs.record_box_check.Kinds as check-kinds
@@ -17,17 +17,17 @@ use Rattle.exports.proofs.record_box_lookup_answer.Reads as lookup-answ
 use Rattle.exports.proofs.record_box_settle.Kinds as settle-kinds
 use Rattle.exports.proofs.record_box_settle.Reads as settle
 
-pub check-unique : Only 1 check-kinds.ps check-kinds.r (λ κs x y. x ≡ y) check.Post
+pub check-unique : Only 1 check-kinds.ps check-kinds.r (λ κs x e y f. x ≡ y) check.Post
 check-unique κs a x y e f p q = p ∙ sym q
 
-pub lookup-unique : Only 1 lookup-kinds.ps lookup-kinds.r (λ κs x y. x ≡ y) lookup.Post
+pub lookup-unique : Only 1 lookup-kinds.ps lookup-kinds.r (λ κs x e y f. x ≡ y) lookup.Post
 lookup-unique κs a x y e f p q = p ∙ sym q
 
-pub lookup-answer-unique : Only 1 lookup-answer-kinds.ps lookup-answer-kinds.r (λ κs x y. x ≡ y) lookup-answer.Post
+pub lookup-answer-unique : Only 1 lookup-answer-kinds.ps lookup-answer-kinds.r (λ κs x e y f. x ≡ y) lookup-answer.Post
 lookup-answer-unique κs a x y e f p q = p ∙ sym q
 
 -- the numbers of a settlement, whatever is held at the end
-pub settle-unique : Only 4 settle-kinds.ps settle-kinds.r (λ κs x y. x ≡ y) settle.Post
+pub settle-unique : Only 4 settle-kinds.ps settle-kinds.r (λ κs x e y f. x ≡ y) settle.Post
 settle-unique κs a x y e f p q = p .numbers ∙ sym (q .numbers)
 
 -- and with them the cells, the order places and the taken bytes

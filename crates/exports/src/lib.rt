@@ -2,19 +2,17 @@
 // cases carry values, so an answer goes out as document 01's number and position. include/record_box.h has the declarations.
 ghost use mathlib.Core.Path.{_≡_};
 ghost use Rattle.rules.specs.Record.{first};
-ghost use Rattle.rules.specs.Refusals.{numberOf, positionOf};
 ghost use Rattle.rules.specs.Check.{check as checked};
 ghost use Rattle.rules.specs.Lookup.{lookupAnswer};
 ghost use Rattle.table.specs.Part.{named};
-ghost use Rattle.settlement.specs.Promise.{lent};
+ghost use Rattle.rules.specs.Settlement.{lent};
 ghost use Rattle.exports.specs.Answers.{refusalAs, checkedAs, lookupAs, partAs, settledAs, SettlesAs};
+use record::RECORD;
 use rules::Checked;
 use rules::LookupAnswer;
 use rules::Name;
 use rules::Outcome;
 use rules::Refusal;
-
-const RECORD: usize = 138;
 
 // The number and the position of a refusal; number 0 says that there is none.
 #[repr(C)]
@@ -44,50 +42,12 @@ pub struct SettledNumbers {
 
 // ---- answers as numbers
 
-fn number_of(why: Refusal) -> u32
-    ensures { λ r. ⌜ r ≡ numberOf why ⌝ }
-{
-    match why {
-        Refusal::Authors => 1,
-        Refusal::Length => 2,
-        Refusal::Records => 3,
-        Refusal::Sum { position: _ } => 4,
-        Refusal::Fields { position: _ } => 5,
-        Refusal::Rising { position: _ } => 6,
-        Refusal::Entries { position: _ } => 7,
-        Refusal::Earlier { position: _ } => 8,
-        Refusal::Round { position: _ } => 9,
-        Refusal::Lent => 10,
-        Refusal::Unnamed => 11,
-        Refusal::Input => 12,
-    }
-}
-
-fn position_of(why: Refusal) -> usize
-    ensures { λ r. ⌜ r ≡ positionOf why ⌝ }
-{
-    match why {
-        Refusal::Authors => 0,
-        Refusal::Length => 0,
-        Refusal::Records => 0,
-        Refusal::Sum { position } => position,
-        Refusal::Fields { position } => position,
-        Refusal::Rising { position } => position,
-        Refusal::Entries { position } => position,
-        Refusal::Earlier { position } => position,
-        Refusal::Round { position } => position,
-        Refusal::Lent => 0,
-        Refusal::Unnamed => 0,
-        Refusal::Input => 0,
-    }
-}
-
 fn refusal_as(why: Refusal) -> Answer
     ensures { λ r. ⌜ r ≡ refusalAs why ⌝ }
 {
     Answer {
-        number: number_of(why),
-        position: position_of(why),
+        number: refusals::number_of(why),
+        position: refusals::position_of(why),
     }
 }
 
@@ -129,8 +89,8 @@ fn settled_as(o: Outcome) -> SettledNumbers
             equivocators: c.equivocators,
         },
         Outcome::Refused(why) => SettledNumbers {
-            number: number_of(why),
-            position: position_of(why),
+            number: refusals::number_of(why),
+            position: refusals::position_of(why),
             records: 0,
             highest: 0,
             undecided: 0,

@@ -94,6 +94,10 @@ first-unique p k m m′ a b = omega (arith, first-low p k m m′ a b, first-low 
 pub first-by : (p : ℕ → Bool) (k m : ℕ) → First p k m → firstTo p k ≡ m
 first-by p k m a = first-unique p k (firstTo p k) m (first-is p k) a
 
+-- none passes
+pub first-none : (p : ℕ → Bool) (k : ℕ) → ((i : ℕ) → i < k → p i ≡ false) → firstTo p k ≡ k
+first-none p k h = first-by p k k (record { within = le-refl k; before = h; hit = λ l. absurd (lt-irrefl k l) })
+
 -- two tests that agree below the bound
 pub first-same : (p q : ℕ → Bool) (k : ℕ) → ((i : ℕ) → i < k → p i ≡ q i) → firstTo p k ≡ firstTo q k
 first-same p q k h =

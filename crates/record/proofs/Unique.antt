@@ -2,11 +2,7 @@
 -- so a weaker one would not pass here. Nothing is lent to be changed.
 -- Assumes nothing.
 use mathlib.Core.Path.{_≡_, sym, _∙_}
-use mathlib.Core.List.{List}
-use Prim.Native.Nat.{ℕ}
-use contract.Lifetimes.{Lfts}
-use denote.Triple.Clauses.{AtExit}
-use borrow.Fn.Kinds.{PK, RK, Out, Dens, resT, endedOf}
+use Rattle.rules.proofs.Only.{Only}
 use Rattle.record.proofs.byte_at.Kinds as byte-at-kinds
 use Rattle.record.proofs.byte_at.Reads as byte-at
 use Rattle.record.proofs.u16_at.Kinds as u16-at-kinds
@@ -24,30 +20,26 @@ use Rattle.record.proofs.name_of.Reads as name-of
 use Rattle.record.proofs.entry_of.Kinds as entry-of-kinds
 use Rattle.record.proofs.entry_of.Reads as entry-of
 
--- Two results that meet a promise, at the same arguments, are the same in the sense of S.
-abbrev pub Only : (n : ℕ) (ps : List (PK n)) (r : RK n) → ((κs : Lfts n) → resT r κs .Denot → resT r κs .Denot → Type 0) → Out n ps r → Type 0
-Only n ps r S promise = (κs : Lfts n) (a : Dens κs ps) (x y : resT r κs .Denot) (e f : AtExit (endedOf n ps r) κs) → promise κs a x e → promise κs a y f → S κs x y
-
-pub byte-at-unique : Only 1 byte-at-kinds.ps byte-at-kinds.r (λ κs x y. x ≡ y) byte-at.Post
+pub byte-at-unique : Only 1 byte-at-kinds.ps byte-at-kinds.r (λ κs x e y f. x ≡ y) byte-at.Post
 byte-at-unique κs a x y e f p q = p ∙ sym q
 
-pub u16-at-unique : Only 1 u16-at-kinds.ps u16-at-kinds.r (λ κs x y. x ≡ y) u16-at.Post
+pub u16-at-unique : Only 1 u16-at-kinds.ps u16-at-kinds.r (λ κs x e y f. x ≡ y) u16-at.Post
 u16-at-unique κs a x y e f p q = p ∙ sym q
 
-pub u32-at-unique : Only 1 u32-at-kinds.ps u32-at-kinds.r (λ κs x y. x ≡ y) u32-at.Post
+pub u32-at-unique : Only 1 u32-at-kinds.ps u32-at-kinds.r (λ κs x e y f. x ≡ y) u32-at.Post
 u32-at-unique κs a x y e f p q = p ∙ sym q
 
-pub sum-of-unique : Only 1 sum-of-kinds.ps sum-of-kinds.r (λ κs x y. x ≡ y) sum-of.Post
+pub sum-of-unique : Only 1 sum-of-kinds.ps sum-of-kinds.r (λ κs x e y f. x ≡ y) sum-of.Post
 sum-of-unique κs a x y e f p q = p ∙ sym q
 
-pub refs-of-unique : Only 1 refs-of-kinds.ps refs-of-kinds.r (λ κs x y. x ≡ y) refs-of.Post
+pub refs-of-unique : Only 1 refs-of-kinds.ps refs-of-kinds.r (λ κs x e y f. x ≡ y) refs-of.Post
 refs-of-unique κs a x y e f p q = p ∙ sym q
 
-pub decode-unique : Only 1 decode-kinds.ps decode-kinds.r (λ κs x y. x ≡ y) decode.Post
+pub decode-unique : Only 1 decode-kinds.ps decode-kinds.r (λ κs x e y f. x ≡ y) decode.Post
 decode-unique κs a x y e f p q = p ∙ sym q
 
-pub name-of-unique : Only 1 name-of-kinds.ps name-of-kinds.r (λ κs x y. x ≡ y) name-of.Post
+pub name-of-unique : Only 1 name-of-kinds.ps name-of-kinds.r (λ κs x e y f. x ≡ y) name-of.Post
 name-of-unique κs a x y e f p q = p ∙ sym q
 
-pub entry-of-unique : Only 1 entry-of-kinds.ps entry-of-kinds.r (λ κs x y. x ≡ y) entry-of.Post
+pub entry-of-unique : Only 1 entry-of-kinds.ps entry-of-kinds.r (λ κs x e y f. x ≡ y) entry-of.Post
 entry-of-unique κs a x y e f p q = p ∙ sym q

@@ -7,6 +7,9 @@ ghost use Rattle.rules.specs.Record.{number, first, decode as decoded, sumOf, n
 use rules::Name;
 use rules::Vertex;
 
+// The length of a record.
+pub const RECORD: usize = 138;
+
 // Where each field starts.
 const ROUND: usize = 0;
 
@@ -63,10 +66,10 @@ fn rest(b: &[u8], i: usize) -> &[u8]
 pub fn byte_at(b: &[u8], i: usize) -> u8
     ensures { λ r. ⌜ r ≡ getD (now (b .entry)) i 0 ⌝ }
 {
-    if i < b.len() {
-        return b[i];
+    if b.len() <= i {
+        return 0;
     }
-    0
+    b[i]
 }
 
 // The two bytes from byte i on as a number. Only near the end are they read one by one.

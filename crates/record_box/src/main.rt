@@ -2,7 +2,7 @@
 // Reading and writing stand here alone. What is answered and what is printed is promised below and in the libraries.
 ghost use mathlib.Core.Path.{_≡_};
 ghost use lib.ListN.{length, drop};
-ghost use Rattle.settlement.specs.Promise.{lent};
+ghost use Rattle.rules.specs.Settlement.{lent};
 ghost use Rattle.record_box.specs.Answer.{Answers};
 use libc::STDIN_FILENO;
 use libc::STDOUT_FILENO;

@@ -7,14 +7,14 @@ use Rattle.rules.specs.declared.Vertex.{Vertex}
 use Rattle.rules.specs.Record.{at, nameOf}
 use Rattle.rules.specs.Decision.{undecided, skipped, committed}
 use Rattle.rules.specs.Program.{lineR, lineV}
-use Rattle.report.specs.Lines.{lineUndecided, lineSkipped, lineCommitted, lineNamed}
+use Rattle.report.specs.Lines.{lineWord, lineUndecided, lineSkipped, lineCommitted, lineNamed}
 
 pub undecided-line : (vs : List Vertex) (r : ℕ) → lineUndecided r ≡ lineR vs r undecided
-unfolding lineUndecided lineR
+unfolding lineUndecided lineWord lineR
 undecided-line vs r = refl
 
 pub skipped-line : (vs : List Vertex) (r : ℕ) → lineSkipped r ≡ lineR vs r skipped
-unfolding lineSkipped lineR
+unfolding lineSkipped lineWord lineR
 skipped-line vs r = refl
 
 pub committed-line : (vs : List Vertex) (r p : ℕ) → lineCommitted r (at vs p .author) (at vs p .mark) ≡ lineR vs r (committed p)

@@ -4,10 +4,8 @@
 use mathlib.Core.Path.{_≡_, sym, _∙_}
 use mathlib.Core.List.{List}
 use Prim.Native.Nat.{ℕ}
-use contract.Lifetimes.{Lfts}
 use denote.Ref.{now}
-use denote.Triple.Clauses.{AtExit}
-use borrow.Fn.Kinds.{PK, RK, Out, Dens, resT, endedOf}
+use Rattle.rules.proofs.Only.{Only}
 use Rattle.report.specs.Fills.{Fills}
 use Rattle.report.proofs.line_refused.Kinds as refused-kinds
 use Rattle.report.proofs.line_refused.Reads as refused
@@ -29,10 +27,6 @@ use Rattle.report.proofs.output.output_lines.Reads as output-lines
 -- one answer, one buffer
 fills-once : {bytes old m n : List ℕ} {r s : ℕ} → Fills bytes old m r → Fills bytes old n s → (r ≡ s) × (m ≡ n)
 fills-once p q = (p .answer ∙ sym (q .answer), p .buffer ∙ sym (q .buffer))
-
--- Two results that meet a promise, at the same arguments, are the same in the sense of S.
-abbrev pub Only : (n : ℕ) (ps : List (PK n)) (r : RK n) → ((κs : Lfts n) → resT r κs .Denot → AtExit (endedOf n ps r) κs → resT r κs .Denot → AtExit (endedOf n ps r) κs → Type 0) → Out n ps r → Type 0
-Only n ps r S promise = (κs : Lfts n) (a : Dens κs ps) (x y : resT r κs .Denot) (e f : AtExit (endedOf n ps r) κs) → promise κs a x e → promise κs a y f → S κs x e y f
 
 pub refused-unique : Only 1 refused-kinds.ps refused-kinds.r (λ κs x e y f. (x ≡ y) × (now (e .1 .0) ≡ now (f .1 .0))) refused.Post
 refused-unique κs a x y e f p q = fills-once p q

@@ -5,13 +5,17 @@ use mathlib.Core.List.{List, [], _∷_}
 use Rattle.rules.specs.declared.Name.{Name}
 use Rattle.rules.specs.Program.{bytesOf, decimal, line}
 
+-- `R r word`
+unfoldable pub lineWord : ℕ → List ℕ → List ℕ
+lineWord r word = line (bytesOf "R") (decimal r ∷ word ∷ [])
+
 -- `R r undecided`
 unfoldable pub lineUndecided : ℕ → List ℕ
-lineUndecided r = line (bytesOf "R") (decimal r ∷ bytesOf "undecided" ∷ [])
+lineUndecided r = lineWord r (bytesOf "undecided")
 
 -- `R r skip`
 unfoldable pub lineSkipped : ℕ → List ℕ
-lineSkipped r = line (bytesOf "R") (decimal r ∷ bytesOf "skip" ∷ [])
+lineSkipped r = lineWord r (bytesOf "skip")
 
 -- `R r commit author mark`
 unfoldable pub lineCommitted : ℕ → ℕ → ℕ → List ℕ

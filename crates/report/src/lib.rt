@@ -1,11 +1,10 @@
 // The bytes of each printed line. Nothing is printed here: a line is put together by value and then copied into a buffer that the caller lends.
 ghost use mathlib.Core.Path.{_≡_};
 ghost use mathlib.Core.List.{[], _∷_, _++_};
-ghost use Prim.Native.Nat.{_+_, _<_};
+ghost use Prim.Native.Nat.{_+_, _<_, _≤_};
 ghost use lib.ListN.{length};
 ghost use Rattle.rules.specs.Program.{lineX, lineS};
-ghost use Rattle.rules.specs.Refusals.{numberOf, positionOf};
-ghost use Rattle.report.specs.Lines.{lineUndecided, lineSkipped, lineCommitted, lineNamed};
+ghost use Rattle.report.specs.Lines.{lineWord, lineUndecided, lineSkipped, lineCommitted, lineNamed};
 ghost use Rattle.report.specs.Fills.{Fills};
 ghost use Rattle.report.specs.Text.{textOf, Room, Begun, Grown, Numbered, Spelled};
 use rules::Counts;
@@ -128,52 +127,14 @@ fn ended(l: Line, out: &mut [u8]) -> usize
 
 // ---- the lines
 
-fn number_of(r: Refusal) -> u64
-    ensures { λ k. ⌜ k ≡ numberOf r ⌝ }
-{
-    match r {
-        Refusal::Authors => 1,
-        Refusal::Length => 2,
-        Refusal::Records => 3,
-        Refusal::Sum { position: _ } => 4,
-        Refusal::Fields { position: _ } => 5,
-        Refusal::Rising { position: _ } => 6,
-        Refusal::Entries { position: _ } => 7,
-        Refusal::Earlier { position: _ } => 8,
-        Refusal::Round { position: _ } => 9,
-        Refusal::Lent => 10,
-        Refusal::Unnamed => 11,
-        Refusal::Input => 12,
-    }
-}
-
-fn position_of(r: Refusal) -> u64
-    ensures { λ k. ⌜ k ≡ positionOf r ⌝ }
-{
-    match r {
-        Refusal::Sum { position } => position as u64,
-        Refusal::Fields { position } => position as u64,
-        Refusal::Rising { position } => position as u64,
-        Refusal::Entries { position } => position as u64,
-        Refusal::Earlier { position } => position as u64,
-        Refusal::Round { position } => position as u64,
-        Refusal::Authors => 0,
-        Refusal::Length => 0,
-        Refusal::Records => 0,
-        Refusal::Lent => 0,
-        Refusal::Unnamed => 0,
-        Refusal::Input => 0,
-    }
-}
-
 // `X number position`
 pub fn line_refused(r: Refusal, out: &mut [u8]) -> usize
     ensures { λ k. ⌜ Fills (lineX r) (now (out .entry)) (now (out .exit)) k ⌝ }
 {
-    let number = number_of(r);
-    let position = position_of(r);
-    let l = with_number(begun(b'X'), number);
-    ended(with_number(l, position), out)
+    let number = refusals::number_of(r);
+    let position = refusals::position_of(r);
+    let l = with_number(begun(b'X'), number as u64);
+    ended(with_number(l, position as u64), out)
 }
 
 // `S records highest-round first-undecided written equivocators`
@@ -189,20 +150,27 @@ pub fn line_settled(c: Counts, out: &mut [u8]) -> usize
     ended(l, out)
 }
 
+// `R r word`
+fn line_word(round: u32, word: &[u8], out: &mut [u8]) -> usize
+    requires { ⌜ length (now word) ≤ 9 ⌝ }
+    ensures { λ k. ⌜ Fills (lineWord round (now (word .entry))) (now (out .entry)) (now (out .exit)) k ⌝ }
+{
+    let l = with_number(begun(b'R'), round as u64);
+    ended(with_word(l, word), out)
+}
+
 // `R r undecided`
 pub fn line_undecided(round: u32, out: &mut [u8]) -> usize
     ensures { λ k. ⌜ Fills (lineUndecided round) (now (out .entry)) (now (out .exit)) k ⌝ }
 {
-    let l = with_number(begun(b'R'), round as u64);
-    ended(with_word(l, b"undecided"), out)
+    line_word(round, b"undecided", out)
 }
 
 // `R r skip`
 pub fn line_skipped(round: u32, out: &mut [u8]) -> usize
     ensures { λ k. ⌜ Fills (lineSkipped round) (now (out .entry)) (now (out .exit)) k ⌝ }
 {
-    let l = with_number(begun(b'R'), round as u64);
-    ended(with_word(l, b"skip"), out)
+    line_word(round, b"skip", out)
 }
 
 // `R r commit author mark`

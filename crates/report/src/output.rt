@@ -12,12 +12,11 @@ use crate::line_settled;
 use crate::line_skipped;
 use crate::line_undecided;
 use crate::line_vertex;
+use record::RECORD;
 use rules::Counts;
 use rules::Name;
 use rules::Outcome;
 use rules::Settlement;
-
-const RECORD: usize = 138;
 
 // Past this a number of lines is not told.
 const MOST: usize = 18446744073709551615;

@@ -8,3 +8,4 @@ pub mod Decisions
 pub mod Decide
 pub mod Highest
 pub mod Examples
+pub mod Only

@@ -41,6 +41,9 @@ pub record Buffers : Type 0 where
   pub order : List ℕ
   pub taken : List ℕ
 
+abbrev pub lent : (cells order taken : List ℕ) → Buffers
+lent cells order taken = record { cells = cells; order = order; taken = taken }
+
 -- The outcome, and what the lent buffers hold then.
 pub record Settles : Type 0 where
   pub outcome : Outcome

@@ -7,7 +7,6 @@ use mathlib.Core.Logic.{_⊎_, inl, inr, ⊎-elim, _≢_}
 use mathlib.Core.Bool.{Bool, true, false, not}
 use mathlib.Core.List.{List}
 use native.Mathlib.Omega.{arith}
-use native.Mathlib.Nat.{le-refl}
 use lib.Dec.{ltb, eqb}
 use lib.ListN.{length, getD, set, replicate}
 use borrow.Author.Tests.{eqb-true, eqb-false, eq-eqb, ne-eqb, ltb-true, ltb-false}
@@ -25,17 +24,13 @@ use Rattle.rules.proofs.Names.{Below, is-below, below-round, below-mark}
 use Rattle.rules.proofs.Records.{vertices-length, vertices-at}
 use Rattle.rules.proofs.Accepted.{Accepted, accepted, author-low, rising}
 use Rattle.table.proofs.Names.{record-part, name-at, lent}
-use Rattle.settlement.proofs.Writing.{or-last, set-tabulate}
+use Rattle.decide.proofs.Bytes.{or-last, set-tabulate}
 
 -- ---- a search from below
 
 -- the first that passes
 pub first-found : (p : ℕ → Bool) (k i : ℕ) → i < k → anyTo p i ≡ false → p i ≡ true → i ≡ firstTo p k
 first-found p k i l none t = sym (first-by p k i (record { within = omega arith; before = any-none p i none; hit = λ _. t }))
-
--- none passes
-pub first-none : (p : ℕ → Bool) (k : ℕ) → anyTo p k ≡ false → k ≡ firstTo p k
-first-none p k none = sym (first-by p k k (record { within = le-refl k; before = any-none p k none; hit = λ l. absurd (omega arith) }))
 
 -- ---- two neighbours
 

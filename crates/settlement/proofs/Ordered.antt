@@ -28,9 +28,11 @@ use Rattle.rules.specs.Settlement.{writtenOver, takenBytes}
 use Rattle.rules.proofs.Accepted.{Accepted}
 use Rattle.rules.proofs.Decide.{decisions-length, leads}
 use Rattle.rules.proofs.Highest.{one-later}
-use Rattle.settlement.specs.Write.{bytesOver, placesOver, written, Told, fresh, Led}
-use Rattle.settlement.proofs.Sweeps.{history-size, history-past, history-low, history-step}
-use Rattle.settlement.proofs.Writing.{over-at, over-length, over-same, over-over, over-none, places-over, filter-same}
+use Rattle.settlement.specs.Write.{placesOver, written, Told, fresh, Led}
+use Rattle.decide.proofs.Sweeps.{history-size, history-past, history-low, history-step}
+use Rattle.decide.specs.Work.{bytesOver}
+use Rattle.decide.proofs.Bytes.{over-at, over-length, over-same, over-over, over-none}
+use Rattle.settlement.proofs.Writing.{places-over, filter-same}
 
 -- ---- the slots that are left
 

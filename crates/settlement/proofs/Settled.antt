@@ -9,9 +9,9 @@ use native.Mathlib.Nat.{le-refl, le-of-suc-le-suc, not-suc-le-zero}
 use lib.Dec.{eqb}
 use lib.ListN.{length, getD, take, drop, length-append, length-take, length-drop, length-map, List·getD-append, List·getD-map}
 use lib.Seq.{drop-at}
-use borrow.Author.Tests.{ne-eqb, lt-ltb, le-ltb}
-use Rattle.folds.specs.Folds.{bit, firstTo, member}
-use Rattle.folds.proofs.Tests.{or-left, or-right, or-false}
+use borrow.Author.Tests.{ne-eqb, ltb-false}
+use Rattle.folds.specs.Folds.{bit, firstTo, member, tabulate}
+use Rattle.folds.proofs.Tests.{or-neither}
 use Rattle.folds.proofs.Laws.{First, first-by, first-is}
 use Rattle.folds.proofs.Lists.{length-tabulate}
 use Rattle.rules.specs.declared.Vertex.{Vertex}
@@ -27,9 +27,14 @@ use Rattle.rules.specs.Check.{check}
 use Rattle.rules.specs.Decision.{Decision, undecided, skipped, committed, cell}
 use Rattle.rules.specs.Decide.{document01, highest, decisions, decisionAt}
 use Rattle.rules.specs.Order.{order, firstUndecided}
-use Rattle.rules.specs.Settlement.{Buffers, writtenOver, takenBytes, tooShort, equivocators, countsOf, settled, settleIf, settle}
-use Rattle.rules.proofs.Refusals.{then-refused, then-passed, when-yes, when-no}
-use Rattle.settlement.specs.Promise.{SettlesTo, lent}
+use Rattle.rules.specs.Settlement.{Buffers, lent, writtenOver, takenBytes, tooShort, equivocators, countsOf, settled, settleIf, settle}
+use Rattle.rules.proofs.Refusals.{then-both, when-passed}
+use Rattle.rules.proofs.Records.{vertices-length}
+use Rattle.rules.proofs.Decide.{decisions-length}
+use Rattle.decide.specs.Work.{bytesOver}
+use Rattle.decide.proofs.Bytes.{over-over, over-length}
+use Rattle.decide.specs.Promise.{DecidesTo, cellsAfter, takenAfter}
+use Rattle.settlement.specs.Promise.{SettlesTo}
 
 -- ---- the first undecided round, by the cells
 
@@ -84,72 +89,79 @@ open-cell ds cells top e h = ap (λ m. 1 + m) (first-by _ top (F .place) found) 
 pub open-low : (t : ℕ → Bool) (top : ℕ) → firstTo t top ≤ top
 open-low t top = first-is t top .within
 
--- ---- the ways out
+-- ---- the ways out, by the answer of `decide`
 
-module _ (n : ℕ) (t : List ℕ) (b : Buffers) (x : Settlement) where
+module _ (n : ℕ) (t : List ℕ) (b : Buffers) where
   abbrev vs : List Vertex
   vs = vertices first t
 
   -- a refusal leaves all as it was
-  refused : (r : Refusal) → (check first n t then Lent when tooShort (document01 n) vs b) ≡ Refused r → x .outcome ≡ outcome.Refused r → SettlesTo n t b x b
-  unfolding settle settleIf
-  refused r e o = record { outcome = rw e o; cells = rw e; order = rw e; taken = rw e }
+  pub refused-to : (x : Settlement) (r : Refusal) (cells taken : List ℕ) → DecidesTo n t b (Refused r) cells taken → x .outcome ≡ outcome.Refused r → SettlesTo n t b x (lent cells (b .order) taken)
+  unfolding settle settleIf cellsAfter takenAfter
+  refused-to x r cells taken D o = let e = sym (D .answer) in record { outcome = rw e o; cells = rw e (D .in-cells); order = rw e; taken = rw e (D .in-taken) }
 
-  -- that of the table
-  pub refused-table : (r : Refusal) → check first n t ≡ Refused r → x .outcome ≡ outcome.Refused r → SettlesTo n t b x b
-  refused-table r e o = refused r (then-refused _ _ e) o
+  -- a settled table
+  module _ (cells taken : List ℕ) (D : DecidesTo n t b Passed cells taken) where
+    abbrev ds : List (Decision ℕ)
+    ds = decisions (document01 n) n vs
 
-  module _ (passes : check first n t ≡ Passed) where
-    -- that of a lent buffer
-    too-short : tooShort (document01 n) vs b ≡ true → x .outcome ≡ outcome.Refused Lent → SettlesTo n t b x b
-    too-short e o = refused Lent (then-passed _ _ passes ∙ when-yes _ _ e) o
+    -- every decision is in its cell
+    pub decided-cells : cells ≡ writtenOver (map cell ds) (b .cells)
+    unfolding cellsAfter
+    decided-cells = D .in-cells
 
-    pub short-cells : length (b .cells) < highest vs → x .outcome ≡ outcome.Refused Lent → SettlesTo n t b x b
+    -- nothing is taken yet
+    pub untaken : taken ≡ bytesOver (λ p. 0) (records first t) (b .taken)
+    unfolding takenAfter
+    untaken = D .in-taken
+
+    pub passes : check first n t ≡ Passed
+    passes = then-both _ _ (sym (D .answer)) .0
+
+    long-enough : tooShort (document01 n) vs b ≡ false
+    long-enough = when-passed _ _ (then-both _ _ (sym (D .answer)) .1)
+
+    pub slots : highest vs ≤ length (b .cells)
     unfolding tooShort
-    short-cells l o = too-short (or-left _ _ (lt-ltb _ _ l)) o
+    slots = ltb-false _ _ (or-neither _ _ long-enough .0)
 
-    pub short-order : length (b .order) < length vs → x .outcome ≡ outcome.Refused Lent → SettlesTo n t b x b
+    pub places : length vs ≤ length (b .order)
     unfolding tooShort
-    short-order l o = too-short (or-right _ _ (or-left _ _ (lt-ltb _ _ l))) o
+    places = ltb-false _ _ (or-neither _ _ (or-neither _ _ long-enough .1) .0)
 
-    pub short-taken : length (b .taken) < length vs → x .outcome ≡ outcome.Refused Lent → SettlesTo n t b x b
+    pub bytes : length vs ≤ length (b .taken)
     unfolding tooShort
-    short-taken l o = too-short (or-right _ _ (or-right _ _ (lt-ltb _ _ l))) o
+    bytes = ltb-false _ _ (or-neither _ _ (or-neither _ _ long-enough .1) .1)
 
-    -- ---- a settled table
+    -- so they may be said of what `decide` leaves, too
+    pub none-taken : taken ≡ bytesOver (λ p. 0) (records first t) taken
+    none-taken = untaken ∙ sym (ap (bytesOver (λ p. 0) (records first t)) untaken ∙ over-over (λ p. 0) (records first t) (b .taken) (λ p. 0))
 
-    module _ (c : highest vs ≤ length (b .cells)) (o : length vs ≤ length (b .order)) (k : length vs ≤ length (b .taken)) where
-      fits : (check first n t then Lent when tooShort (document01 n) vs b) ≡ Passed
-      unfolding tooShort
-      fits = then-passed _ _ passes ∙ when-no _ _ (or-false _ _ (le-ltb _ _ c) (or-false _ _ (le-ltb _ _ o) (le-ltb _ _ k)))
+    pub room : records first t ≤ length taken
+    room = let e = vertices-length first t in omega (arith, bytes, ap length untaken ∙ over-length (λ p. 0) (records first t) (b .taken) (omega (arith, bytes)))
 
-      abbrev ds : List (Decision ℕ)
-      ds = decisions (document01 n) n vs
+    -- what the cells hold
+    pub held : (s : ℕ) → s < highest vs → getD cells s 0 ≡ cell (decisionAt ds s)
+    held s l = ap (λ c. getD c s 0) decided-cells ∙ cell-at ds (b .cells) s (rw (decisions-length (document01 n) n vs) l)
 
-      pub settled-to : (after : Buffers) (counts : Counts) → x .outcome ≡ outcome.Settled counts → counts ≡ countsOf n vs ds (order (document01 n) n vs) → after .cells ≡ writtenOver (map cell ds) (b .cells)
-          → after .order ≡ writtenOver (order (document01 n) n vs) (b .order) → after .taken ≡ writtenOver (takenBytes (order (document01 n) n vs) (length vs)) (b .taken)
-          → SettlesTo n t b x after
-      unfolding settle settleIf settled order
-      settled-to after counts e q e1 e2 e3 = record { outcome = rw fits (e ∙ ap outcome.Settled q); cells = rw fits e1; order = rw fits e2; taken = rw fits e3 }
+    pub wide : highest vs ≤ length cells
+    wide = let e = decisions-length (document01 n) n vs in omega (arith, slots, ap length decided-cells ∙ cells-length ds (b .cells) (omega (arith, slots)))
+
+    -- those past the records are as before
+    past-records : (w : List ℕ) → writtenOver (takenBytes w (length vs)) taken ≡ writtenOver (takenBytes w (length vs)) (b .taken)
+    unfolding takenBytes bytesOver
+    past-records w =
+        let same : length (takenBytes w (length vs)) ≡ records first t = length-tabulate _ (length vs) ∙ vertices-length first t in
+        ap (λ d. takenBytes w (length vs) ++ d) (ap (λ m. drop (length (takenBytes w (length vs))) m) untaken ∙ drop-at (tabulate (λ p. 0) (records first t)) (drop (records first t) (b .taken)) _ (length-tabulate _ (records first t) ∙ sym same) ∙ ap (λ j. drop j (b .taken)) (sym same))
+
+    pub settled-to : (x : Settlement) (order′ taken′ : List ℕ) (counts : Counts) → x .outcome ≡ outcome.Settled counts → counts ≡ countsOf n vs ds (order (document01 n) n vs)
+        → order′ ≡ writtenOver (order (document01 n) n vs) (b .order) → taken′ ≡ writtenOver (takenBytes (order (document01 n) n vs) (length vs)) taken
+        → SettlesTo n t b x (lent cells order′ taken′)
+    unfolding settle settleIf settled order
+    settled-to x order′ taken′ counts e q e2 e3 = let fits = sym (D .answer) in record { outcome = rw fits (e ∙ ap outcome.Settled q); cells = rw fits decided-cells; order = rw fits e2; taken = rw fits (e3 ∙ past-records _) }
 
 -- the counts, one by one
 pub counts-are : (n : ℕ) (vs : List Vertex) (ds : List (Decision ℕ)) (w : List ℕ) (c : Counts) → c .records ≡ length vs → c .highest ≡ highest vs → c .undecided ≡ firstUndecided 1 ds
     → c .written ≡ length w → c .equivocators ≡ equivocators n vs → c ≡ countsOf n vs ds w
 unfolding countsOf
 counts-are n vs ds w c p q r s u = λ i. record { records = p i; highest = q i; undecided = r i; written = s i; equivocators = u i }
-
--- ---- the taken bytes, of which the first k are lent as work space
-
-module _ (part old : List ℕ) (k : ℕ) (room : k ≤ length old) (e : length part ≡ length (take (k - 0) old)) where
-  part-length : length part ≡ k
-  part-length = e ∙ length-take (k - 0) old ∙ omega arith
-
-  pub lent-length : k ≤ length (part ++ drop (k - 0) old)
-  lent-length = rw (length-append part (drop (k - 0) old)) (omega (arith, part-length))
-
-  -- those past the records are as before
-  pub past-records : (w : List ℕ) (n : ℕ) → n ≡ k → writtenOver (takenBytes w n) (part ++ drop (k - 0) old) ≡ writtenOver (takenBytes w n) old
-  unfolding takenBytes
-  past-records w n q =
-      let same : k - 0 ≡ length (takenBytes w n) = omega (arith, q, length-tabulate (λ p. bit (member p w)) n) in
-      ap (λ d. takenBytes w n ++ d) (drop-at part (drop (k - 0) old) (length (takenBytes w n)) (omega (arith, part-length)) ∙ ap (λ j. drop j old) same)

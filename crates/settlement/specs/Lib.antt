@@ -1,7 +1,2 @@
-pub mod Range
-pub mod Certify
-pub mod Work
-pub mod Sweep
-pub mod Cells
 pub mod Write
 pub mod Promise

@@ -8,9 +8,6 @@ use Rattle.rules.specs.Record.{first}
 use Rattle.rules.specs.Decide.{document01}
 use Rattle.rules.specs.Settlement.{Buffers, Settles, settle}
 
-abbrev pub lent : (cells order taken : List ℕ) → Buffers
-lent cells order taken = record { cells = cells; order = order; taken = taken }
-
 pub record SettlesTo (n : ℕ) (t : List ℕ) (before : Buffers) (r : Settlement) (after : Buffers) : Type 0 where
   pub outcome : r .outcome ≡ settle (document01 n) first n t before .outcome
   pub cells : after .cells ≡ settle (document01 n) first n t before .buffers .cells

@@ -11,11 +11,8 @@ use Rattle.rules.specs.declared.Vertex.{Vertex}
 use Rattle.rules.specs.Record.{at, nameOf}
 use Rattle.rules.specs.Support.{references}
 use Rattle.rules.specs.History.{history}
-use Rattle.settlement.specs.Sweep.{markedFrom}
-
--- The first k bytes are what f gives, the rest is as before.
-unfoldable pub bytesOver : (ℕ → ℕ) → ℕ → List ℕ → List ℕ
-bytesOver f k old = tabulate f k ++ drop k old
+use Rattle.decide.specs.Work.{bytesOver}
+use Rattle.decide.specs.Sweep.{markedFrom}
 
 -- Places from `count` on are written, the others are as before.
 unfoldable pub placesOver : ℕ → List ℕ → List ℕ → List ℕ

@@ -8,7 +8,7 @@ ghost use Rattle.rules.specs.declared.Checked.the-variants.{Passed};
 ghost use Rattle.rules.specs.Record.{first, records, vertices, at};
 ghost use Rattle.rules.specs.Check.{check};
 ghost use Rattle.rules.specs.Settlement.{equivocates, equivocators};
-use crate::range::RECORD;
+use record::RECORD;
 
 // The first slot whose cell is 0, counted from 1; past the last if there is none.
 pub(crate) fn first_undecided(cells: &[u32], top: usize) -> usize

@@ -1,22 +1,17 @@
 // The settlement: the decisions, the written order and the counts of a table, in lent buffers.
 ghost use mathlib.Core.Path.{_≡_};
 ghost use Rattle.rules.specs.Record.{first};
-ghost use Rattle.rules.specs.Settlement.{Buffers};
-ghost use Rattle.settlement.specs.Promise.{SettlesTo, lent};
+ghost use Rattle.rules.specs.Settlement.{lent};
+ghost use Rattle.settlement.specs.Promise.{SettlesTo};
+use record::RECORD;
 use rules::Checked;
 use rules::Counts;
 use rules::Outcome;
 use rules::Refusal;
 use rules::Settlement;
 
-mod certify;
 mod counts;
-mod decide;
-mod direct;
-mod history;
 mod order;
-mod range;
-mod tags;
 
 fn refused(r: Refusal) -> Settlement
     ensures { λ x. ⌜ x .outcome ≡ Outcome.Refused r ⌝ }
@@ -26,8 +21,7 @@ fn refused(r: Refusal) -> Settlement
     }
 }
 
-// Checks the table, decides every round and writes the order. A refusal changes no lent byte. The taken bytes of the records serve as work
-// space before they are written.
+// Checks the table, decides every round and writes the order. A refusal changes no lent byte.
 pub fn settle(
     n: u8,
     table: &[u8],
@@ -37,27 +31,16 @@ pub fn settle(
 ) -> Settlement
     ensures { λ r. ⌜ SettlesTo n (now (table .entry)) (lent (now (cells .entry)) (now (order .entry)) (now (taken .entry))) r (lent (now (cells .exit)) (now (order .exit)) (now (taken .exit))) ⌝ }
 {
-    let c = table::check(n, table);
+    let c = decide::decide(n, table, cells, order, taken);
     match c {
         Checked::Passed => {}
         Checked::Refused(r) => return refused(r),
     }
-    let k = table.len() / range::RECORD;
     let highest = decide::highest_of(table);
     let top = highest as usize;
-    if cells.len() < top {
-        return refused(Refusal::Lent);
-    }
-    if order.len() < k {
-        return refused(Refusal::Lent);
-    }
-    if taken.len() < k {
-        return refused(Refusal::Lent);
-    }
-    decide::decide_all(n, table, cells, &mut taken[0..k]);
     let written = order::write_order(n, table, top, cells, order, taken);
     let counts = Counts {
-        records: k,
+        records: table.len() / RECORD,
         highest,
         undecided: counts::first_undecided(cells, top) as u32,
         written,

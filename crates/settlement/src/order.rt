@@ -11,22 +11,11 @@ ghost use Rattle.rules.specs.Decision.{cell};
 ghost use Rattle.rules.specs.Decide.{document01, highest, decisions, decisionAt};
 ghost use Rattle.rules.specs.Order.{order as orderOf};
 ghost use Rattle.rules.specs.Settlement.{writtenOver, takenBytes};
-ghost use Rattle.settlement.specs.Write.{bytesOver, placesOver, written, due, Told, MarkedOne, MarkedMore, MarkedDown, Led};
-use crate::range::RECORD;
+ghost use Rattle.decide.specs.Work.{bytesOver};
+ghost use Rattle.settlement.specs.Write.{placesOver, written, due, Told, MarkedOne, MarkedMore, MarkedDown, Led};
+use record::RECORD;
 use rules::Name;
 use table::find;
-
-// The first k bytes are 0, the rest is kept.
-fn clear(taken: &mut [u8], k: usize)
-    requires { ⌜ k ≤ length (now taken) ⌝ }
-    ensures { λ r. ⌜ now (taken .exit) ≡ bytesOver (λ q. 0) k (now (taken .entry)) ⌝ }
-{
-    let mut q: usize = 0;
-    while q < k {
-        taken[q] = 0;
-        q += 1;
-    }
-}
 
 // A position is marked unless it is written or marked already. Answers it if it is marked here and lower than `low`, and else `low`.
 fn mark_one(q: usize, low: usize, taken: &mut [u8]) -> usize
@@ -147,11 +136,11 @@ pub(crate) fn write_order(
     requires { ⌜ ((t : ℕ) → t < top → getD (now cells) t 0 ≡ cell (decisionAt (decisions (document01 n) n (vertices first (now table))) t)) ⌝ }
     requires { ⌜ records first (now table) ≤ length (now order) ⌝ }
     requires { ⌜ records first (now table) ≤ length (now taken) ⌝ }
+    requires { ⌜ now taken ≡ bytesOver (λ q. 0) (records first (now table)) (now taken) ⌝ }
     ensures { λ r. ⌜ now (order .exit) ≡ writtenOver (orderOf (document01 n) n (vertices first (now (table .entry)))) (now (order .entry)) ⌝ }
     ensures { λ r. ⌜ now (taken .exit) ≡ writtenOver (takenBytes (orderOf (document01 n) n (vertices first (now (table .entry)))) (length (vertices first (now (table .entry))))) (now (taken .entry)) ⌝ }
     ensures { λ r. ⌜ r ≡ length (orderOf (document01 n) n (vertices first (now (table .entry)))) ⌝ }
 {
-    clear(taken, table.len() / RECORD);
     let mut count: usize = 0;
     let mut s: usize = 0;
     while s < top {

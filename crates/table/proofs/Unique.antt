@@ -5,7 +5,7 @@ use mathlib.Core.Path.{_≡_, sym, _∙_}
 use mathlib.Core.List.{List}
 use Prim.Native.Nat.{ℕ}
 use denote.Ref.{RefT, ptr, now}
-use Rattle.record.proofs.Unique.{Only}
+use Rattle.rules.proofs.Only.{Only}
 use Rattle.table.proofs.place.Kinds as place-kinds
 use Rattle.table.proofs.place.Reads as place
 use Rattle.table.proofs.find.Kinds as find-kinds
@@ -17,16 +17,16 @@ use Rattle.table.proofs.lookup.Reads as lookup
 use Rattle.table.proofs.lookup_answer.Kinds as lookup-answer-kinds
 use Rattle.table.proofs.lookup_answer.Reads as lookup-answer
 
-pub place-unique : Only 1 place-kinds.ps place-kinds.r (λ κs x y. x ≡ y) place.Post
+pub place-unique : Only 1 place-kinds.ps place-kinds.r (λ κs x e y f. x ≡ y) place.Post
 place-unique κs a x y e f p q = p ∙ sym q
 
-pub find-unique : Only 1 find-kinds.ps find-kinds.r (λ κs x y. x ≡ y) find.Post
+pub find-unique : Only 1 find-kinds.ps find-kinds.r (λ κs x e y f. x ≡ y) find.Post
 find-unique κs a x y e f p q = p ∙ sym q
 
-pub check-unique : Only 1 check-kinds.ps check-kinds.r (λ κs x y. x ≡ y) check.Post
+pub check-unique : Only 1 check-kinds.ps check-kinds.r (λ κs x e y f. x ≡ y) check.Post
 check-unique κs a x y e f p q = p ∙ sym q
 
-pub lookup-answer-unique : Only 1 lookup-answer-kinds.ps lookup-answer-kinds.r (λ κs x y. x ≡ y) lookup-answer.Post
+pub lookup-answer-unique : Only 1 lookup-answer-kinds.ps lookup-answer-kinds.r (λ κs x e y f. x ≡ y) lookup-answer.Post
 lookup-answer-unique κs a x y e f p q = p ∙ sym q
 
 -- the same place in memory, and the same bytes
@@ -35,5 +35,5 @@ pub record SamePart (x y : RefT (List ℕ)) : Type 0 where
   pub place : ptr x .1 ≡ ptr y .1
   pub bytes : now x ≡ now y
 
-pub lookup-unique : Only 1 lookup-kinds.ps lookup-kinds.r (λ κs x y. SamePart x y) lookup.Post
+pub lookup-unique : Only 1 lookup-kinds.ps lookup-kinds.r (λ κs x e y f. SamePart x y) lookup.Post
 lookup-unique κs a x y e f p q = record { block = p .block ∙ sym (q .block); place = p .place ∙ sym (q .place); bytes = p .bytes ∙ sym (q .bytes) }

@@ -16,13 +16,12 @@ ghost use Rattle.rules.specs.Lookup.{lookupAnswer, lookupBegin, lookupLength};
 ghost use Rattle.table.specs.Search.{nameAt, placeOf, findBelow};
 ghost use Rattle.table.specs.Ready.{Ready};
 ghost use Rattle.table.specs.Part.{PartOf, named};
+use record::RECORD;
 use rules::Checked;
 use rules::LookupAnswer;
 use rules::Name;
 use rules::Refusal;
 use rules::Vertex;
-
-const RECORD: usize = 138;
 
 const ENTRIES: usize = 31;
 

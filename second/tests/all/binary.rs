@@ -1,5 +1,6 @@
 //! The binary's sub-commands.
 
+use crate::stored::folder;
 use second::examples::{p2, p7};
 use second::generate::{input, Kind};
 use std::io::Write;
@@ -30,6 +31,46 @@ fn settle_reads_standard_input() {
     assert_eq!(second(&["settle"], &[]).stdout, b"X 1 0\n");
     assert_eq!(second(&["settle"], &[4]).stdout, b"S 0 0 1 0 0\n");
     assert_eq!(second(&["settle"], &[4; 65_414]).stdout, b"X 12 0\n");
+}
+
+/// The text form there and back, from a file and from standard input.
+#[test]
+fn table_and_text_undo_each_other() {
+    let input = [vec![4], p7().table()].concat();
+    let text = second(&["text"], &input).stdout;
+    assert_eq!(second(&["table", "-"], &text).stdout, input);
+    let stored = folder().join("p07.txt");
+    let stored = stored.to_str().expect("a plain path");
+    assert_eq!(second(&["table", stored], &[]).stdout, input);
+}
+
+#[test]
+fn draw_writes_a_picture() {
+    let output = second(&["draw", "-"], b"authors 4\nround 1 author 0\n");
+    assert!(output.status.success());
+    assert!(output.stdout.starts_with(b"<svg "));
+    assert!(output.stdout.ends_with(b"</svg>\n"));
+}
+
+#[test]
+fn a_wrong_text_is_told_with_file_and_line() {
+    for (arguments, standard_input, told) in [
+        (
+            ["table", "-"],
+            "authors 4\nround x\n",
+            "second: -: line 2: ",
+        ),
+        (["table", "-"], "\u{7f}\n", "second: -: line 1: "),
+        (["table", "none.txt"], "", "second: none.txt: "),
+    ] {
+        let output = second(&arguments, standard_input.as_bytes());
+        assert_eq!(output.status.code(), Some(2));
+        assert!(output.stdout.is_empty());
+        let error = String::from_utf8_lossy(&output.stderr);
+        assert!(error.starts_with(told), "{error}");
+    }
+    let output = second(&["table", "-"], &[0xFF]);
+    assert_eq!(output.stderr, b"second: -: not a text in UTF-8\n");
 }
 
 #[test]

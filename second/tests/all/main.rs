@@ -3,6 +3,7 @@
 mod attack;
 mod binary;
 mod calls;
+mod drawn;
 mod easy_errors;
 mod examples;
 mod generated;
@@ -10,4 +11,6 @@ mod past_f;
 mod plain;
 mod refusals;
 mod sizes;
+mod stored;
+mod text;
 mod vectors;

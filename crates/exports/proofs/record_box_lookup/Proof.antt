@@ -1,6 +1,6 @@
 -- `exports::record_box_lookup` meets its contract: the place and the length of the record that is found, or of the first zero bytes.
 -- Assumes nothing.
-use mathlib.Core.Path.{_≡_, sym, _∙_}
+use mathlib.Core.Path.{_≡_, refl, sym, _∙_}
 use native.Mathlib.Omega.{arith}
 use Rattle.rules.specs.declared.Checked.the-variants.{Passed, Refused}
 use Rattle.rules.specs.Record.{first}
@@ -42,7 +42,7 @@ returns-2 c =
     let t = a .table .now in
     let x = named (a .round) (a .author) (a .mark) in
     let e : check first (a .n) t ≡ Passed = sym (f .before .before .before .check .ensures) ∙ f .before .enum-told .given .1 in
-    rw (begin-found (a .n) t x e (f .find .result) (f .find .ensures) (omega arith), length-found (a .n) t x e (f .find .result) (f .find .ensures) (omega arith))
+    rw (begin-found (a .n) t x e (f .find .result) (f .find .ensures) (omega arith), length-found (a .n) t x e (f .find .result) (f .find .ensures) (omega arith)) refl
 
 returns-3 : tie.Need-returns-3
 returns-3 c =

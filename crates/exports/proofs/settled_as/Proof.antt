@@ -1,5 +1,6 @@
 -- `exports::settled_as` meets its contract: 0, 0 and the counts where it is settled, or the refusal's number and position and no counts.
 -- Assumes nothing.
+use mathlib.Core.Path.{refl}
 use borrow.Author.Needs.{needs}
 use Rattle.exports.proofs.settled_as.Statement.{statement}
 use Rattle.exports.proofs.settled_as.Tie as tie
@@ -17,7 +18,7 @@ position-of-requires : tie.Need-position-of-requires
 position-of-requires c κs = search needs
 
 returns : tie.Need-returns
-returns c = rw (c .before .o .given .1)
+returns c = rw (c .before .o .given .1) refl
 
 returns-2 : tie.Need-returns-2
 returns-2 c = rw (c .before .before .before .o2 .given .1, c .before .number-of .ensures, c .position-of .ensures)

@@ -1,19 +1,19 @@
 -- `record::byte_at` meets its contract: past the end it answers 0, which is what a list holds there.
 -- Assumes nothing.
-use mathlib.Core.Path.{sym}
+use mathlib.Core.Path.{refl, sym}
 use Rattle.record.proofs.Laws.{getD-past}
 use borrow.Author.Needs.{needs}
 use Rattle.record.proofs.byte_at.Statement.{statement}
 use Rattle.record.proofs.byte_at.Tie as tie
 
+returns : tie.Need-returns
+returns c = sym (getD-past (c .before .args .b .now) (c .before .args .i) (c .if1 .taken))
+
 shared-slice-read-result : tie.Need-shared-slice-read-result
 shared-slice-read-result c = search needs
 
-returns : tie.Need-returns
-returns c = search needs
-
 returns-2 : tie.Need-returns-2
-returns-2 c = sym (getD-past (c .before .args .b .now) (c .before .args .i) (c .if1 .left))
+returns-2 c = refl
 
 pub byte-at-spec : {M : Type 1} → statement M
-byte-at-spec = tie.close (tie.spec shared-slice-read-result returns returns-2)
+byte-at-spec = tie.close (tie.spec returns shared-slice-read-result returns-2)

@@ -1,7 +1,9 @@
 -- `record::u16_at` meets its contract. Two bytes within b are joined as they stand;
 -- near the end and past it the same bytes are read from the rest of b.
 -- Assumes nothing.
-use mathlib.Core.Path.{sym, _∙_}
+use Prim.Native.Nat.{_+_, _*_}
+use lib.ListN.{getD}
+use mathlib.Core.Path.{_≡_, sym, _∙_}
 use Rattle.record.proofs.Laws.{number-two, two-rest}
 use borrow.Author.Needs.{needs}
 use Rattle.record.proofs.u16_at.Statement.{statement}
@@ -25,7 +27,8 @@ join-two-requires c κs = search needs
 returns : tie.Need-returns
 returns c =
     let a = c .before .before .before .before .before .before .args in
-    c .join-two .ensures ∙ sym (number-two (a .b .now) (a .i))
+    let e : c .join-two .result ≡ getD (a .b .now) (a .i) 0 + 256 * getD (a .b .now) (a .i + 1) 0 = c .join-two .ensures in
+    e ∙ sym (number-two (a .b .now) (a .i))
 
 rest-requires : tie.Need-rest-requires
 rest-requires c κs = search needs

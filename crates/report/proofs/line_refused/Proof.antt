@@ -2,6 +2,7 @@
 -- Assumes nothing.
 use mathlib.Core.Path.{_∙_}
 use Rattle.rules.specs.Program.{bytesOf, lineX}
+use Rattle.report.specs.Text.{Begun, Numbered}
 use Rattle.report.proofs.Text.{first-word, next-word, last-word}
 use borrow.Author.Needs.{needs}
 use Rattle.report.proofs.line_refused.Statement.{statement}
@@ -15,6 +16,9 @@ position-of-requires c κs = search needs
 
 begun-requires : tie.Need-begun-requires
 begun-requires c κs = search needs
+
+cast-with-number : tie.Need-cast-with-number
+cast-with-number c = search needs
 
 with-number-requires : tie.Need-with-number-requires
 with-number-requires c κs = search needs
@@ -35,12 +39,14 @@ returns c =
     let e2 = e .before .before in
     let e1 = e2 .before in
     let e0 = e1 .before in
+    let number = e0 .before .before in
+    let position = e0 .before in
+    let letter : Begun 88 (e0 .begun .result) = e0 .begun .ensures in
+    let first : Numbered (e0 .begun .result) (number .number-of .result) (e1 .with-number .result) = e1 .with-number .ensures in
+    let second : Numbered (e1 .with-number .result) (position .position-of .result) (e2 .with-number2 .result) = e2 .with-number2 .ensures in
     last-word
     (e2 .with-number2 .result)
-    (rw (← e0 .before .before .number-of .ensures, ← e0 .before .position-of .ensures)
-    (first-word (e0 .begun .ensures) _
-    ∙ next-word (e1 .with-number .ensures .grown) _
-    ∙ next-word (e2 .with-number2 .ensures .grown) _))
+    (rw (← number .number-of .ensures, ← position .position-of .ensures) (first-word letter _ ∙ next-word (first .grown) _ ∙ next-word (second .grown) _))
     (e .ended .ensures)
 
 pub line-refused-spec : {M : Type 1} → statement M
@@ -50,6 +56,7 @@ line-refused-spec =
     number-of-requires
     position-of-requires
     begun-requires
+    cast-with-number
     with-number-requires
     with-number-requires-2
     ended-requires

@@ -1,53 +1,23 @@
--- `report::line_skipped` meets its contract: the letter, the round and the word in turn are the line.
+-- `report::line_skipped` meets its contract: its word is that of the line.
 -- Assumes nothing.
-use mathlib.Core.Path.{_∙_}
 use Rattle.rules.specs.Program.{bytesOf}
 use Rattle.report.specs.Lines.{lineSkipped}
-use Rattle.report.proofs.Text.{first-word, next-word, last-word}
 use borrow.Author.Needs.{needs}
 use Rattle.report.proofs.line_skipped.Statement.{statement}
 use Rattle.report.proofs.line_skipped.Tie as tie
 
-begun-requires : tie.Need-begun-requires
-begun-requires c κs = search needs
+slice-aggregate-line-word : tie.Need-slice-aggregate-line-word
+slice-aggregate-line-word c = search needs
 
-with-number-requires : tie.Need-with-number-requires
-with-number-requires c κs = search needs
-
-slice-aggregate-with-word : tie.Need-slice-aggregate-with-word
-slice-aggregate-with-word c = search needs
-
-with-word-requires : tie.Need-with-word-requires
-with-word-requires c κs = search needs
-
-ended-requires : tie.Need-ended-requires
-ended-requires c κs = search needs
+line-word-requires : tie.Need-line-word-requires
+line-word-requires c κs = search needs
 
 same-length : tie.Need-same-length
 same-length c = search needs
 
 returns : tie.Need-returns
 unfolding bytesOf lineSkipped
-returns c =
-    let e = c .before .before in
-    let e2 = e .before .before in
-    let e1 = e2 .before .before in
-    let e0 = e1 .before in
-    last-word
-    (e2 .with-word .result)
-    (first-word (e0 .begun .ensures) _
-    ∙ next-word (e1 .with-number .ensures .grown) _
-    ∙ next-word (e2 .with-word .ensures) _)
-    (e .ended .ensures)
+returns c = c .before .before .line-word .ensures
 
 pub line-skipped-spec : {M : Type 1} → statement M
-line-skipped-spec =
-    tie.close
-    (tie.spec
-    begun-requires
-    with-number-requires
-    slice-aggregate-with-word
-    with-word-requires
-    ended-requires
-    same-length
-    returns)
+line-skipped-spec = tie.close (tie.spec slice-aggregate-line-word line-word-requires same-length returns)

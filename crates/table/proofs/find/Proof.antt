@@ -1,6 +1,7 @@
 -- `table::find` meets its contract: the place that the halving finds has the name, or no place has it.
 -- Assumes nothing.
-use mathlib.Core.Path.{sym}
+use mathlib.Core.Path.{_≡_, sym}
+use Rattle.table.specs.Search.{nameAt}
 use Rattle.table.proofs.Search.{found-here, found-other, found-past}
 use borrow.Author.Needs.{needs}
 use Rattle.table.proofs.find.Statement.{statement}
@@ -23,8 +24,9 @@ returns c =
     let s = c .before in
     let m = s .before .before .before in
     let a = m .before .before .before .args in
+    let y : s .before .name-at .result ≡ nameAt (a .table .now) (m .place-of .result) = s .before .name-at .ensures in
     rw (← m .before .smaller .ensures)
-    (sym (found-here (a .table .now) _ (a .x) _ (m .place-of .ensures) (s .before .before .if1 .taken) (rw (← s .before .name-at .ensures, ← s .same .ensures) (c .if2 .taken))))
+    (sym (found-here (a .table .now) _ (a .x) _ (m .place-of .ensures) (s .before .before .if1 .taken) (rw (← y, ← s .same .ensures) (c .if2 .taken))))
 
 returns-2 : tie.Need-returns-2
 returns-2 c =

@@ -1,5 +1,8 @@
 -- `table::place` meets its contract: it halves as far as there are records.
 -- Assumes nothing.
+use Prim.Native.Nat.{min}
+use mathlib.Core.Path.{_≡_}
+use Rattle.rules.specs.Record.{first, records}
 use borrow.Author.Needs.{needs}
 use Rattle.table.proofs.place.Statement.{statement}
 use Rattle.table.proofs.place.Tie as tie
@@ -11,7 +14,10 @@ place-of-requires : tie.Need-place-of-requires
 place-of-requires c κs = search needs
 
 returns : tie.Need-returns
-returns c = rw (← c .before .smaller .ensures) (c .place-of .ensures)
+returns c =
+    let a = c .before .before .before .args in
+    let k : c .before .smaller .result ≡ min (a .count) (records first (a .table .now)) = c .before .smaller .ensures in
+    rw (← k) (c .place-of .ensures)
 
 pub place-spec : {M : Type 1} → statement M
 place-spec = tie.close (tie.spec smaller-requires place-of-requires returns)

@@ -1,5 +1,6 @@
 -- `report::output::output_lines` meets its contract, by the outcome's case.
 -- Assumes nothing.
+use mathlib.Core.Path.{refl}
 use Rattle.report.specs.Output.{outputLines}
 use borrow.Author.Needs.{needs}
 use Rattle.report.proofs.output.output_lines.Statement.{statement}
@@ -20,7 +21,7 @@ returns c = rw (c .before .before .o .given .1) (c .settled-lines .ensures)
 
 returns-2 : tie.Need-returns-2
 unfolding outputLines
-returns-2 c = rw (c .enum-told .given .1)
+returns-2 c = rw (c .enum-told .given .1) refl
 
 pub output-lines-spec : {M : Type 1} → statement M
 output-lines-spec =

@@ -2,15 +2,15 @@
 -- The measure is the cells that are left.
 -- Assumes nothing.
 use Prim.Native.Nat.{ℕ, _+_, _-_, _≤_}
-use mathlib.Core.Path.{_≡_, ap}
+use mathlib.Core.Path.{_≡_, sym, ap}
 use mathlib.Core.Bool.{Bool, false}
 use mathlib.Core.List.{List}
 use lib.Dec.{eqb}
 use lib.ListN.{getD}
 use borrow.Author.Tests.{eq-eqb, ne-eqb}
 use Rattle.folds.specs.Folds.{anyTo}
-use Rattle.folds.proofs.Laws.{any-start, any-next}
-use Rattle.settlement.proofs.Counting.{first-found, first-none}
+use Rattle.folds.proofs.Laws.{any-start, any-next, any-none, first-none}
+use Rattle.settlement.proofs.Counting.{first-found}
 use native.Mathlib.Omega.{arith}
 use borrow.Author.Needs.{needs}
 use Rattle.settlement.proofs.counts.first_undecided.Statement.{statement}
@@ -62,7 +62,8 @@ returns-2 : tie.Need-returns-2 Inv-loop μ-loop
 returns-2 c =
     let l = c .before in
     let e : l .loop .t ≡ l .before .args .top = omega arith in
-    ap (λ (i : ℕ). 1 + i) (first-none (none-at (l .before .args .cells .now)) (l .before .args .top) (rw e at (l .loop .inv .1)))
+    let none = none-at (l .before .args .cells .now) in
+    ap (λ (i : ℕ). 1 + i) (sym (first-none none (l .before .args .top) (any-none none (l .before .args .top) (rw e at (l .loop .inv .1)))))
 
 pub first-undecided-spec : {M : Type 1} → statement M
 first-undecided-spec =

@@ -9,7 +9,7 @@ use Rattle.rules.specs.Record.{first, vertices}
 use Rattle.rules.proofs.Records.{vertices-length}
 use Rattle.rules.proofs.Accepted.{accepted}
 use Rattle.settlement.specs.Write.{written, due}
-use Rattle.settlement.proofs.Ranges.{record-limit}
+use Rattle.decide.proofs.Ranges.{record-limit}
 use Rattle.settlement.proofs.Writing.{marked-length, led-room, led}
 use borrow.Author.Needs.{needs}
 use Rattle.settlement.proofs.order.write_leader.Statement.{statement}

@@ -9,8 +9,9 @@ use Rattle.folds.specs.Folds.{countTo}
 use Rattle.rules.specs.Record.{first, records, vertices}
 use Rattle.rules.proofs.Records.{vertices-length}
 use Rattle.rules.proofs.Accepted.{accepted}
-use Rattle.settlement.specs.Write.{bytesOver, written}
-use Rattle.settlement.proofs.Writing.{over-at, over-length}
+use Rattle.decide.specs.Work.{bytesOver}
+use Rattle.decide.proofs.Bytes.{over-at}
+use Rattle.settlement.specs.Write.{written}
 use Rattle.settlement.proofs.Ordered.{Upto, upto-start, upto-told, upto-count, upto-skip, upto-commit, upto-stop, upto-end, cell-undecided, cell-skipped, cell-leader}
 use native.Mathlib.Omega.{arith}
 use borrow.Author.Needs.{needs}
@@ -23,21 +24,15 @@ Inv-loop n table top cells order₀ taken₀ count₀ s₀ order taken count s =
 abbrev μ-loop : tie.MeasureT-loop
 μ-loop n table top cells order₀ taken₀ count₀ s₀ order taken count s = top - s
 
-clear-requires : tie.Need-clear-requires Inv-loop μ-loop
-clear-requires c κs = search needs
-
 loop-holds : tie.Need-loop-holds Inv-loop μ-loop
 loop-holds c =
-    let k = c .before .before in
-    let g = k .before .before .before .before .before .before in
+    let g = c .before .before .before .before in
     let t = g .args .table .now in
-    let m = k .clear .last .0 in
-    let m₀ = g .args .taken .now in
+    let m = g .args .taken .now in
     let long = vertices-length first t in
-    let cleared : m ≡ bytesOver (λ q. 0) (length (vertices first t)) m₀ = rw long (k .clear .ensures) in
-    let wide : length (vertices first t) ≤ length m₀ = rw long (omega arith) in
-    let kept : length m ≡ length m₀ = ap length cleared ∙ over-length _ (length (vertices first t)) m₀ wide in
-    (omega arith, upto-start (g .args .n) (vertices first t) (g .args .order .now) m (omega arith) (λ q lq. ap (λ b. getD b q 0) cleared ∙ over-at (λ i. 0) (length (vertices first t)) m₀ q lq))
+    let cleared : m ≡ bytesOver (λ q. 0) (length (vertices first t)) m = rw long (g .pre .1 .1 .1 .1 .1 .1) in
+    let room : length (vertices first t) ≤ length m = rw long (omega arith) in
+    (omega arith, upto-start (g .args .n) (vertices first t) (g .args .order .now) m (omega arith) (λ q lq. ap (λ b. getD b q 0) cleared ∙ over-at (λ i. 0) (length (vertices first t)) m q lq))
 
 mul-c : tie.Need-mul-c Inv-loop μ-loop
 mul-c c = search needs
@@ -54,20 +49,16 @@ same-length-2 c = search needs
 returns : tie.Need-returns Inv-loop μ-loop
 returns c =
     let l = c .before .before .before in
-    let k = l .before .before .before in
-    let g = k .before .before .before .before .before .before in
+    let g = l .before .before .before .before .before in
     let t = g .args .table .now in
-    let m = k .clear .last .0 in
-    let m₀ = g .args .taken .now in
+    let m = g .args .taken .now in
     let n = g .args .n in
     let long = vertices-length first t in
     let U = l .loop .inv .1 in
     let A = accepted first n t (g .pre .0) in
-    let cleared : m ≡ bytesOver (λ q. 0) (length (vertices first t)) m₀ = rw long (k .clear .ensures) in
+    let cleared : m ≡ bytesOver (λ q. 0) (length (vertices first t)) m = rw long (g .pre .1 .1 .1 .1 .1 .1) in
     let wide : length (vertices first t) ≤ length (g .args .order .now) = rw long (omega arith) in
-    let wide₀ : length (vertices first t) ≤ length m₀ = rw long (omega arith) in
-    let kept : length m ≡ length m₀ = ap length cleared ∙ over-length _ (length (vertices first t)) m₀ wide₀ in
-    let room : length (vertices first t) ≤ length m = omega arith in
+    let room : length (vertices first t) ≤ length m = rw long (omega arith) in
     let d = cell-undecided _ (sym (g .pre .1 .1 .1 .0 (l .loop .s) (omega arith)) ∙ c .if1 .taken) in
     let E = upto-stop cleared U (omega arith) d in
     (E .places, (E .bytes, E .counted))
@@ -83,20 +74,16 @@ sub-write-leader c = search needs
 write-leader-requires : tie.Need-write-leader-requires Inv-loop μ-loop
 write-leader-requires c κs =
     let l = c .before .before .before .before .before .before in
-    let k = l .before .before .before in
-    let g = k .before .before .before .before .before .before in
+    let g = l .before .before .before .before .before in
     let t = g .args .table .now in
-    let m = k .clear .last .0 in
-    let m₀ = g .args .taken .now in
+    let m = g .args .taken .now in
     let n = g .args .n in
     let long = vertices-length first t in
     let U = l .loop .inv .1 in
     let A = accepted first n t (g .pre .0) in
-    let cleared : m ≡ bytesOver (λ q. 0) (length (vertices first t)) m₀ = rw long (k .clear .ensures) in
+    let cleared : m ≡ bytesOver (λ q. 0) (length (vertices first t)) m = rw long (g .pre .1 .1 .1 .1 .1 .1) in
     let wide : length (vertices first t) ≤ length (g .args .order .now) = rw long (omega arith) in
-    let wide₀ : length (vertices first t) ≤ length m₀ = rw long (omega arith) in
-    let kept : length m ≡ length m₀ = ap length cleared ∙ over-length _ (length (vertices first t)) m₀ wide₀ in
-    let room : length (vertices first t) ≤ length m = omega arith in
+    let room : length (vertices first t) ≤ length m = rw long (omega arith) in
     let x = c .before .before in
     let led = cell-leader A (l .loop .s) _ (g .pre .1 .1 .1 .0 (l .loop .s) (omega arith)) (x .before .if1 .left) (x .if2 .taken) in
     let count : l .loop .count ≡ countTo (written (l .loop .taken)) (records first t) = rw (← long) (upto-count A room wide U) in
@@ -113,20 +100,16 @@ loop-less c = search needs
 loop-again : tie.Need-loop-again Inv-loop μ-loop
 loop-again c =
     let l = c .before .before .before .before in
-    let k = l .before .before .before in
-    let g = k .before .before .before .before .before .before in
+    let g = l .before .before .before .before .before in
     let t = g .args .table .now in
-    let m = k .clear .last .0 in
-    let m₀ = g .args .taken .now in
+    let m = g .args .taken .now in
     let n = g .args .n in
     let long = vertices-length first t in
     let U = l .loop .inv .1 in
     let A = accepted first n t (g .pre .0) in
-    let cleared : m ≡ bytesOver (λ q. 0) (length (vertices first t)) m₀ = rw long (k .clear .ensures) in
+    let cleared : m ≡ bytesOver (λ q. 0) (length (vertices first t)) m = rw long (g .pre .1 .1 .1 .1 .1 .1) in
     let wide : length (vertices first t) ≤ length (g .args .order .now) = rw long (omega arith) in
-    let wide₀ : length (vertices first t) ≤ length m₀ = rw long (omega arith) in
-    let kept : length m ≡ length m₀ = ap length cleared ∙ over-length _ (length (vertices first t)) m₀ wide₀ in
-    let room : length (vertices first t) ≤ length m = omega arith in
+    let room : length (vertices first t) ≤ length m = rw long (omega arith) in
     let j = l .loop .s in
     let holds = g .pre .1 .1 .1 .0 j (omega arith) in
     ⊎-elim
@@ -145,20 +128,16 @@ same-length-4 c = search needs
 returns-2 : tie.Need-returns-2 Inv-loop μ-loop
 returns-2 c =
     let l = c .before in
-    let k = l .before .before .before in
-    let g = k .before .before .before .before .before .before in
+    let g = l .before .before .before .before .before in
     let t = g .args .table .now in
-    let m = k .clear .last .0 in
-    let m₀ = g .args .taken .now in
+    let m = g .args .taken .now in
     let n = g .args .n in
     let long = vertices-length first t in
     let U = l .loop .inv .1 in
     let A = accepted first n t (g .pre .0) in
-    let cleared : m ≡ bytesOver (λ q. 0) (length (vertices first t)) m₀ = rw long (k .clear .ensures) in
+    let cleared : m ≡ bytesOver (λ q. 0) (length (vertices first t)) m = rw long (g .pre .1 .1 .1 .1 .1 .1) in
     let wide : length (vertices first t) ≤ length (g .args .order .now) = rw long (omega arith) in
-    let wide₀ : length (vertices first t) ≤ length m₀ = rw long (omega arith) in
-    let kept : length m ≡ length m₀ = ap length cleared ∙ over-length _ (length (vertices first t)) m₀ wide₀ in
-    let room : length (vertices first t) ≤ length m = omega arith in
+    let room : length (vertices first t) ≤ length m = rw long (omega arith) in
     let E = upto-end cleared U (omega arith) in
     (E .places, (E .bytes, E .counted))
 
@@ -168,7 +147,6 @@ write-order-spec =
     (tie.spec
     Inv-loop
     μ-loop
-    clear-requires
     loop-holds
     mul-c
     shared-slice-read-c

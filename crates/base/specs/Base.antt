@@ -1,0 +1,84 @@
+-- What is proved of the base, in one statement, in the order of the owner's demands. docs/STATEMENT.md says it in plain words.
+-- Assumes nothing.
+use Prim.Native.Nat.{ℕ}
+use mathlib.Core.Path.{_≡_}
+use mathlib.Core.Bool.{false}
+use mathlib.Core.List.{List, map}
+use lib.ListN.{length}
+use denote.Ref.{now}
+use Rattle.rules.specs.declared.Refusal.{Refusal}
+use Rattle.rules.specs.declared.Refusal.the-variants.{Lent}
+use Rattle.rules.specs.declared.Checked.the-variants.{Passed, Refused}
+use Rattle.rules.specs.declared.Counts.{Counts}
+use Rattle.rules.specs.declared.Outcome.the-variants as outcome
+use Rattle.rules.specs.declared.Settlement.{Settlement}
+use Rattle.rules.specs.Record.{first, vertices}
+use Rattle.rules.specs.Refusals.{_when_, _then_}
+use Rattle.rules.specs.Check.{check}
+use Rattle.rules.specs.Decision.{cell}
+use Rattle.rules.specs.Decide.{document01, decisions}
+use Rattle.rules.specs.Order.{order}
+use Rattle.rules.specs.Settlement.{Buffers, lent, tooShort, countsOf, takenBytes, writtenOver}
+use Rattle.rules.specs.Examples.{Hold}
+use Rattle.rules.proofs.Only.{Only}
+use Rattle.agreement.specs.Agreement.{Premises, Demand3}
+use Rattle.agreement.specs.Buffers.{AgreeIn}
+use Rattle.settlement.specs.Promise.{SettlesTo}
+use Rattle.table.proofs.check.Statement as check-call
+use Rattle.table.proofs.lookup.Statement as lookup-call
+use Rattle.table.proofs.lookup_answer.Statement as lookup-answer-call
+use Rattle.settlement.proofs.settle.Statement as settle-call
+use Rattle.settlement.proofs.settle.Kinds as settle-kinds
+use Rattle.settlement.proofs.settle.Reads as settle-promise
+use Rattle.exports.proofs.record_box_check.Statement as exported-check
+use Rattle.exports.proofs.record_box_lookup.Statement as exported-lookup
+use Rattle.exports.proofs.record_box_lookup_answer.Statement as exported-lookup-answer
+use Rattle.exports.proofs.record_box_settle.Statement as exported-settle
+
+-- A call meets its contract: whatever it is given it answers, its work ends, and what the contract says holds of the answer and of all that
+-- was lent. The contracts stand in the `src/` of each crate; none has a `requires`.
+pub record Calls : Type 2 where
+  pub check : {M : Type 1} → check-call.statement M
+  pub lookup : {M : Type 1} → lookup-call.statement M
+  pub lookup-answer : {M : Type 1} → lookup-answer-call.statement M
+  pub settle : {M : Type 1} → settle-call.statement M
+  pub exported-check : {M : Type 1} → exported-check.statement M
+  pub exported-lookup : {M : Type 1} → exported-lookup.statement M
+  pub exported-lookup-answer : {M : Type 1} → exported-lookup-answer.statement M
+  pub exported-settle : {M : Type 1} → exported-settle.statement M
+
+-- A call of `settle` for n and the table t, lent `before`, gives x and leaves `after`.
+module _ (n : ℕ) (t : List ℕ) (before : Buffers) (x : Settlement) (after : Buffers) where
+  -- Each refusal is given exactly when document 01 says, and then only; a refused call changes no lent byte.
+  pub record Refuses : Type 0 where
+    pub given : (r : Refusal) → (check first n t then Lent when tooShort (document01 n) (vertices first t) before) ≡ Refused r → x .outcome ≡ outcome.Refused r
+    pub only-then : (r : Refusal) → x .outcome ≡ outcome.Refused r → (check first n t then Lent when tooShort (document01 n) (vertices first t) before) ≡ Refused r
+    pub untouched : (r : Refusal) → x .outcome ≡ outcome.Refused r → after ≡ before
+
+  -- An accepted table is decided by document 01's rules, and the order written is the one that the decisions fix.
+  pub record Settles : Type 0 where
+    pub counts : x .outcome ≡ outcome.Settled (countsOf n (vertices first t) (decisions (document01 n) n (vertices first t)) (order (document01 n) n (vertices first t)))
+    pub cells : after .cells ≡ writtenOver (map cell (decisions (document01 n) n (vertices first t))) (before .cells)
+    pub places : after .order ≡ writtenOver (order (document01 n) n (vertices first t)) (before .order)
+    pub taken : after .taken ≡ writtenOver (takenBytes (order (document01 n) n (vertices first t)) (length (vertices first t))) (before .taken)
+
+pub record Base : Type 2 where
+  -- demand 1
+  pub calls : Calls
+  pub refusals : (n : ℕ) (t : List ℕ) (before : Buffers) (x : Settlement) (after : Buffers) → SettlesTo n t before x after → Refuses n t before x after
+  -- demand 2
+  pub settles : (n : ℕ) (t : List ℕ) (before : Buffers) (x : Settlement) (after : Buffers) → SettlesTo n t before x after
+      → check first n t ≡ Passed → tooShort (document01 n) (vertices first t) before ≡ false → Settles n t before x after
+  -- demand 3: of the rules, and of what two calls leave in their buffers
+  pub boxes-agree : Demand3
+  pub calls-agree : (n : ℕ) (t u : List ℕ) → Premises first n t u
+      → (before before′ after after′ : Buffers) (x y : Settlement) (c d : Counts)
+      → SettlesTo n t before x after → x .outcome ≡ outcome.Settled c
+      → SettlesTo n u before′ y after′ → y .outcome ≡ outcome.Settled d
+      → AgreeIn t u c d after after′
+  -- any two results that meet the contract of `settle` are equal; each crate's `proofs/Unique.antt` says it of its own
+  pub one-result : Only 4 settle-kinds.ps settle-kinds.r
+      (λ κs x e y f. (x ≡ y) × (lent (now (e .1 .1 .0)) (now (e .1 .1 .1 .0)) (now (e .1 .1 .1 .1 .0)) ≡ lent (now (f .1 .1 .0)) (now (f .1 .1 .1 .0)) (now (f .1 .1 .1 .1 .0))))
+      settle-promise.Post
+  -- P1 to P14 and the three sums
+  pub examples : Hold

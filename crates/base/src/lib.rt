@@ -1,0 +1,1 @@
+// What is proved of the base, in one statement. Definitions and theorems only, no code.

@@ -1,0 +1,77 @@
+-- What `decide` promises, by its three ways out: the table's refusal, a lent buffer that is too short, and every round decided.
+-- Assumes nothing.
+use Prim.Native.Nat.{ℕ, _+_, _-_, _≤_, _<_}
+use mathlib.Core.Path.{_≡_, refl, sym, ap, _∙_}
+use mathlib.Core.Bool.{true}
+use mathlib.Core.List.{List, _++_, map}
+use native.Mathlib.Omega.{arith}
+use lib.ListN.{length, take, drop, length-append, length-take}
+use lib.Seq.{drop-at}
+use borrow.Author.Tests.{lt-ltb, le-ltb}
+use Rattle.folds.specs.Folds.{tabulate}
+use Rattle.folds.proofs.Tests.{or-left, or-right, or-false}
+use Rattle.rules.specs.declared.Vertex.{Vertex}
+use Rattle.rules.specs.declared.Refusal.{Refusal}
+use Rattle.rules.specs.declared.Refusal.the-variants.{Lent}
+use Rattle.rules.specs.declared.Checked.{Checked}
+use Rattle.rules.specs.declared.Checked.the-variants.{Passed, Refused}
+use Rattle.rules.specs.Record.{first, records, vertices}
+use Rattle.rules.specs.Refusals.{_when_, _then_}
+use Rattle.rules.specs.Check.{check}
+use Rattle.rules.specs.Decision.{cell}
+use Rattle.rules.specs.Decide.{document01, highest, decisions}
+use Rattle.rules.specs.Settlement.{Buffers, writtenOver, tooShort}
+use Rattle.rules.proofs.Refusals.{then-refused, then-passed, when-yes, when-no}
+use Rattle.decide.specs.Work.{bytesOver}
+use Rattle.decide.specs.Promise.{DecidesTo, lentCheck, cellsAfter, takenAfter}
+
+module _ (n : ℕ) (t : List ℕ) (b : Buffers) where
+  abbrev vs : List Vertex
+  vs = vertices first t
+
+  -- a refusal leaves all as it was
+  refused : (r : Refusal) → lentCheck n t b ≡ Refused r → DecidesTo n t b (Refused r) (b .cells) (b .taken)
+  unfolding cellsAfter takenAfter
+  refused r e = record { answer = sym e; in-cells = refl; in-taken = refl }
+
+  -- that of the table
+  pub refused-table : (r : Refusal) → check first n t ≡ Refused r → DecidesTo n t b (Refused r) (b .cells) (b .taken)
+  refused-table r e = refused r (then-refused _ _ e)
+
+  module _ (passes : check first n t ≡ Passed) where
+    -- that of a lent buffer
+    too-short : tooShort (document01 n) vs b ≡ true → DecidesTo n t b (Refused Lent) (b .cells) (b .taken)
+    too-short e = refused Lent (then-passed _ _ passes ∙ when-yes _ _ e)
+
+    pub short-cells : length (b .cells) < highest vs → DecidesTo n t b (Refused Lent) (b .cells) (b .taken)
+    unfolding tooShort
+    short-cells l = too-short (or-left _ _ (lt-ltb _ _ l))
+
+    pub short-order : length (b .order) < length vs → DecidesTo n t b (Refused Lent) (b .cells) (b .taken)
+    unfolding tooShort
+    short-order l = too-short (or-right _ _ (or-left _ _ (lt-ltb _ _ l)))
+
+    pub short-taken : length (b .taken) < length vs → DecidesTo n t b (Refused Lent) (b .cells) (b .taken)
+    unfolding tooShort
+    short-taken l = too-short (or-right _ _ (or-right _ _ (lt-ltb _ _ l)))
+
+    module _ (c : highest vs ≤ length (b .cells)) (o : length vs ≤ length (b .order)) (k : length vs ≤ length (b .taken)) where
+      pub decided-to : (cells taken : List ℕ) → cells ≡ writtenOver (map cell (decisions (document01 n) n vs)) (b .cells) → taken ≡ bytesOver (λ p. 0) (records first t) (b .taken) → DecidesTo n t b Passed cells taken
+      unfolding cellsAfter takenAfter tooShort
+      decided-to cells taken e f = record { answer = sym (then-passed _ _ passes ∙ when-no _ _ (or-false _ _ (le-ltb _ _ c) (or-false _ _ (le-ltb _ _ o) (le-ltb _ _ k)))); in-cells = e; in-taken = f }
+
+-- ---- the taken bytes, of which the first k are lent as work space
+
+module _ (part old : List ℕ) (k : ℕ) (room : k ≤ length old) (e : length part ≡ length (take (k - 0) old)) where
+  part-length : length part ≡ k
+  part-length = e ∙ length-take (k - 0) old ∙ omega arith
+
+  pub lent-length : k ≤ length (part ++ drop (k - 0) old)
+  lent-length = rw (length-append part (drop (k - 0) old)) (omega (arith, part-length))
+
+  -- those past the records are as before
+  pub past-records : (f : ℕ → ℕ) → bytesOver f k (part ++ drop (k - 0) old) ≡ bytesOver f k old
+  unfolding bytesOver
+  past-records f =
+      let same : k - 0 ≡ k = omega arith in
+      ap (λ d. tabulate f k ++ d) (drop-at part (drop (k - 0) old) k part-length ∙ ap (λ j. drop j old) same)

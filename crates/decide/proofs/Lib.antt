@@ -1,0 +1,9 @@
+pub mod Ranges
+pub mod Bytes
+pub mod Certified
+pub mod Tagging
+pub mod Commits
+pub mod Sweeps
+pub mod InCells
+pub mod Decided
+pub mod Unique

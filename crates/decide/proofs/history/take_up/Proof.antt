@@ -1,0 +1,37 @@
+-- `decide::history::take_up` meets its contract. Assumes nothing.
+use Prim.Native.Nat.{ℕ, _<_}
+use mathlib.Core.Path.{refl, subst}
+use native.Mathlib.Omega.{arith}
+use native.Mathlib.Numerals.{add-one}
+use lib.ListN.{length}
+use Rattle.rules.specs.Record.{first, vertices}
+use Rattle.rules.proofs.Records.{vertices-length}
+use Rattle.decide.specs.Sweep.{Swept}
+use borrow.Author.Needs.{needs}
+use Rattle.decide.proofs.history.take_up.Statement.{statement}
+use Rattle.decide.proofs.history.take_up.Tie as tie
+
+returns : tie.Need-returns
+returns c =
+    let s = c .before .before .before .before in
+    let vs = vertices first (s .args .table .now) in
+    let within : s .args .walk .anchor < length vs = omega (arith, c .if1 .taken, s .pre .1 .0, vertices-length first (s .args .table .now)) in
+    (refl, subst (λ (x : ℕ). Swept vs x (s .args .walk .done) (s .args .marks .now)) (c .if1 .taken) (s .pre .1 .1 .1 within))
+
+start-requires : tie.Need-start-requires
+start-requires c κs = search needs
+
+add-result : tie.Need-add-result
+add-result c = search needs
+
+same-length : tie.Need-same-length
+same-length c = search needs
+
+returns-2 : tie.Need-returns-2
+returns-2 c =
+    let r = c .before .before in
+    let s = r .before .before .before .before .before .before in
+    (r .start .ensures .0, rw (add-one (s .args .a)) (r .start .ensures .1))
+
+pub take-up-spec : {M : Type 1} → statement M
+take-up-spec = tie.close (tie.spec returns start-requires add-result same-length returns-2)

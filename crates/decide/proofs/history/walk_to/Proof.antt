@@ -1,0 +1,42 @@
+-- `decide::history::walk_to` meets its contract: taken up, and swept down to where it is wanted. Assumes nothing.
+use Prim.Native.Nat.{_≤_}
+use mathlib.Core.Path.{refl, _∙_}
+use native.Mathlib.Omega.{arith}
+use native.Mathlib.Nat.{le-refl}
+use lib.ListN.{length}
+use Rattle.rules.specs.Record.{first, records}
+use borrow.Author.Needs.{needs}
+use Rattle.decide.proofs.history.walk_to.Statement.{statement}
+use Rattle.decide.proofs.history.walk_to.Tie as tie
+
+take-up-requires : tie.Need-take-up-requires
+take-up-requires c κs = search needs
+
+same-length : tie.Need-same-length
+same-length c = search needs
+
+returns : tie.Need-returns
+returns c =
+    let r = c .before .before .before in
+    (r .take-up .ensures .0, (refl, (c .if1 .taken, r .take-up .ensures .1)))
+
+sweep-requires : tie.Need-sweep-requires
+sweep-requires c κs =
+    let r = c .before .before .before .before in
+    let s = r .before .before .before .before in
+    let room : records first (s .args .table .now) ≤ length (r .take-up .last .1 .1 .1 .1 .0) = omega (arith, r .take-up .ensures .0, s .pre .1 .1 .1 .0) in
+    (s .pre .0, (omega arith, (room, r .take-up .ensures .1)))
+
+same-length-2 : tie.Need-same-length-2
+same-length-2 c = search needs
+
+returns-2 : tie.Need-returns-2
+returns-2 c =
+    let w = c .before .before in
+    let r = w .before .before .before .before .before in
+    (w .sweep .ensures .0 ∙ r .take-up .ensures .0, (refl, (le-refl _, w .sweep .ensures .1)))
+
+pub walk-to-spec : {M : Type 1} → statement M
+walk-to-spec =
+    tie.close
+    (tie.spec take-up-requires same-length returns sweep-requires same-length-2 returns-2)

@@ -1,0 +1,92 @@
+-- `decide::tags::authors_tagged` meets its contract. The loop's invariant: c of the first a authors have a vertex of the round with the tag.
+-- The measure is the authors that are left.
+-- Assumes nothing.
+use Prim.Native.Nat.{_+_, _-_, _≤_, min}
+use mathlib.Core.Path.{_≡_, refl, sym, ap, _∙_}
+use mathlib.Core.Logic.{inr}
+use Rattle.folds.specs.Folds.{bit, countTo}
+use Rattle.folds.proofs.Laws.{count-start}
+use Rattle.rules.specs.Record.{first, vertices}
+use Rattle.decide.specs.Range.{startOf}
+use Rattle.decide.specs.Work.{authorsTagged}
+use Rattle.decide.proofs.Ranges.{start-bound, start-mono}
+use Rattle.decide.proofs.Tagging.{authorTagged, author-next, author-once}
+use native.Mathlib.Omega.{arith}
+use borrow.Author.Needs.{needs}
+use Rattle.decide.proofs.tags.authors_tagged.Statement.{statement}
+use Rattle.decide.proofs.tags.authors_tagged.Tie as tie
+
+abbrev Inv-loop : tie.InvT-loop
+Inv-loop n table round tag marks c₀ a₀ c a = (a ≤ n) × (c ≤ a) × (c ≡ countTo (authorTagged (vertices first table) round tag marks) a)
+
+abbrev μ-loop : tie.MeasureT-loop
+μ-loop n table round tag marks c₀ a₀ c a = n - a
+
+loop-holds : tie.Need-loop-holds Inv-loop μ-loop
+loop-holds c = let a = c .before .before .args in (omega arith, omega arith, sym (count-start (authorTagged (vertices first (a .table .now)) (a .round) (a .tag) (a .marks .now))))
+
+begin-requires : tie.Need-begin-requires Inv-loop μ-loop
+begin-requires c κs = search needs
+
+add-begin : tie.Need-add-begin Inv-loop μ-loop
+add-begin c = search needs
+
+begin-requires-2 : tie.Need-begin-requires-2 Inv-loop μ-loop
+begin-requires-2 c κs = search needs
+
+count-tagged-requires : tie.Need-count-tagged-requires Inv-loop μ-loop
+count-tagged-requires c κs =
+    let l = c .before .before .before in
+    let s = l .before .before .before in
+    let a = s .args in
+    let t = a .table .now in
+    let m : startOf t (a .round) (l .loop .a) ≤ startOf t (a .round) (l .loop .a + 1) = start-mono (a .n) t (s .pre .0) (a .round) (l .loop .a) (a .round) (l .loop .a + 1) (inr (refl, omega arith)) in
+    (omega (arith, m, c .before .begin .ensures, c .begin2 .ensures), omega (arith, s .pre .1, c .begin2 .ensures, start-bound (a .n) t (s .pre .0) (a .round) (l .loop .a + 1)))
+
+once-requires : tie.Need-once-requires Inv-loop μ-loop
+once-requires c κs = search needs
+
+add-c : tie.Need-add-c Inv-loop μ-loop
+add-c c = search needs
+
+add-a : tie.Need-add-a Inv-loop μ-loop
+add-a c = search needs
+
+loop-less : tie.Need-loop-less Inv-loop μ-loop
+loop-less c = search needs
+
+loop-again : tie.Need-loop-again Inv-loop μ-loop
+loop-again c =
+    let f = c .before in
+    let l = f .before .before .before .before in
+    let s = l .before .before .before in
+    let a = s .args in
+    let t = a .table .now in
+    let p = authorTagged (vertices first t) (a .round) (a .tag) (a .marks .now) in
+    let one : c .once .result ≡ bit (p (l .loop .a)) = c .once .ensures ∙ ap (λ k. min k 1) (f .count-tagged .ensures) ∙ rw (f .before .before .begin .ensures, f .before .begin2 .ensures) (author-once (a .n) t (s .pre .0) (a .round) (a .tag) (l .loop .a) (a .marks .now)) in
+    (omega arith, omega (arith, c .once .ensures), author-next p (l .loop .a) (l .loop .c) (c .once .result) one (l .loop .inv .2))
+
+returns : tie.Need-returns Inv-loop μ-loop
+unfolding authorsTagged
+returns c =
+    let l = c .before in
+    let e : l .loop .a ≡ l .before .before .before .args .n = omega arith in
+    rw e at (l .loop .inv .2)
+
+pub authors-tagged-spec : {M : Type 1} → statement M
+authors-tagged-spec =
+    tie.close
+    (tie.spec
+    Inv-loop
+    μ-loop
+    loop-holds
+    begin-requires
+    add-begin
+    begin-requires-2
+    count-tagged-requires
+    once-requires
+    add-c
+    add-a
+    loop-less
+    loop-again
+    returns)

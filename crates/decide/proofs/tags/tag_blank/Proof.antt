@@ -1,0 +1,125 @@
+-- `decide::tags::tag_blank` meets its contract. The loop's invariant: the vertices of the round before q have their tag.
+-- The measure is the vertices that are left.
+-- Assumes nothing.
+use Prim.Native.Nat.{ℕ, _+_, _-_, _%_, _≤_, _<_}
+use mathlib.Core.Path.{_≡_, ap, _∙_}
+use mathlib.Core.Logic.{inl}
+use mathlib.Core.List.{List}
+use lib.Dec.{eqb}
+use lib.ListN.{length}
+use Rattle.folds.specs.Folds.{bit}
+use Rattle.rules.specs.Record.{first, vertices, at, entry}
+use Rattle.decide.specs.Range.{startOf}
+use Rattle.decide.proofs.Ranges.{start-bound, start-mono}
+use Rattle.decide.proofs.Tagging.{TaggedTo, tagged-start, tagged-next, tagged-end, bit-small}
+use native.Mathlib.Omega.{arith}
+use borrow.Author.Needs.{needs}
+use Rattle.decide.proofs.tags.tag_blank.Statement.{statement}
+use Rattle.decide.proofs.tags.tag_blank.Tie as tie
+
+-- 1 for a vertex that is blank
+abbrev tag-of : List ℕ → (leader : ℕ) → ℕ → ℕ
+tag-of t leader q = bit (eqb (entry (at (vertices first t) q) leader) 0)
+
+abbrev Inv-loop : tie.InvT-loop
+Inv-loop n table round leader marks₀ end q₀ marks q = (q ≤ end) × TaggedTo q₀ (tag-of table leader) marks₀ q marks
+
+abbrev μ-loop : tie.MeasureT-loop
+μ-loop n table round leader marks₀ end q₀ marks q = end - q
+
+add-begin : tie.Need-add-begin Inv-loop μ-loop
+add-begin c = search needs
+
+begin-requires : tie.Need-begin-requires Inv-loop μ-loop
+begin-requires c κs = search needs
+
+add-begin-2 : tie.Need-add-begin-2 Inv-loop μ-loop
+add-begin-2 c = search needs
+
+begin-requires-2 : tie.Need-begin-requires-2 Inv-loop μ-loop
+begin-requires-2 c κs = search needs
+
+loop-holds : tie.Need-loop-holds Inv-loop μ-loop
+loop-holds c =
+    let s = c .before .before .before .before in
+    let a = s .args in
+    let m : startOf (a .table .now) (a .round + 1) 0 ≤ startOf (a .table .now) (a .round + 2) 0 = start-mono (a .n) (a .table .now) (s .pre .0) (a .round + 1) 0 (a .round + 2) 0 (inl (omega arith)) in
+    (omega (arith, m, c .before .begin .ensures, c .begin2 .ensures), tagged-start (c .begin2 .result) (tag-of (a .table .now) (a .leader)) (a .marks .now))
+
+entry-at-requires : tie.Need-entry-at-requires Inv-loop μ-loop
+entry-at-requires c κs =
+    let b = c .before .before .before in
+    let s = b .before .before .before in
+    omega (arith, b .begin .ensures, start-bound (s .args .n) (s .args .table .now) (s .pre .0) (s .args .round + 2) 0)
+
+blank-tag-requires : tie.Need-blank-tag-requires Inv-loop μ-loop
+blank-tag-requires c κs = search needs
+
+slice-read-with-tag : tie.Need-slice-read-with-tag Inv-loop μ-loop
+slice-read-with-tag c =
+    let l = c .before .before .before .before in
+    let b = l .before .before in
+    let s = b .before .before .before in
+    omega (arith, l .loop .inv .1 .retagged .same-length, s .pre .1 .1, b .begin .ensures, start-bound (s .args .n) (s .args .table .now) (s .pre .0) (s .args .round + 2) 0)
+
+with-tag-requires : tie.Need-with-tag-requires Inv-loop μ-loop
+with-tag-requires c κs =
+    let b = c .before in
+    omega (arith, b .blank-tag .ensures, bit-small (eqb (b .before .entry-at .result) 0))
+
+slice-write-marks : tie.Need-slice-write-marks Inv-loop μ-loop
+slice-write-marks c =
+    let l = c .before .before .before .before .before in
+    let b = l .before .before in
+    let s = b .before .before .before in
+    omega (arith, l .loop .inv .1 .retagged .same-length, s .pre .1 .1, b .begin .ensures, start-bound (s .args .n) (s .args .table .now) (s .pre .0) (s .args .round + 2) 0)
+
+add-q : tie.Need-add-q Inv-loop μ-loop
+add-q c = search needs
+
+loop-less : tie.Need-loop-less Inv-loop μ-loop
+loop-less c = search needs
+
+loop-again : tie.Need-loop-again Inv-loop μ-loop
+loop-again c =
+    let f = c .before .before in
+    let l = f .before .before .before in
+    let b = l .before .before in
+    let s = b .before .before .before in
+    let a = s .args in
+    let low : l .loop .q < length (l .loop .marks) = omega (arith, l .loop .inv .1 .retagged .same-length, s .pre .1 .1, b .begin .ensures, start-bound (a .n) (a .table .now) (s .pre .0) (a .round + 2) 0) in
+    let tag : c .with-tag .result % 128 ≡ tag-of (a .table .now) (a .leader) (l .loop .q) = c .with-tag .ensures .1 ∙ f .blank-tag .ensures ∙ ap (λ m. bit (eqb m 0)) (f .before .entry-at .ensures) in
+    (omega arith, tagged-next _ (tag-of (a .table .now) (a .leader)) (a .marks .now) (l .loop .q) (l .loop .marks) (c .with-tag .result) low (c .with-tag .ensures .0) tag (l .loop .inv .1))
+
+same-length : tie.Need-same-length Inv-loop μ-loop
+same-length c = c .before .loop .inv .1 .retagged .same-length
+
+returns : tie.Need-returns Inv-loop μ-loop
+returns c =
+    let l = c .before in
+    let b = l .before .before in
+    let s = b .before .before .before in
+    let a = s .args in
+    tagged-end (a .n) (a .table .now) (s .pre .0) (a .round + 1) (a .round + 2) (l .before .begin2 .result) (tag-of (a .table .now) (a .leader)) (a .marks .now) (l .loop .marks) (l .loop .q) (omega arith) (l .before .begin2 .ensures) (omega (arith, b .begin .ensures)) (l .loop .inv .1)
+
+pub tag-blank-spec : {M : Type 1} → statement M
+tag-blank-spec =
+    tie.close
+    (tie.spec
+    Inv-loop
+    μ-loop
+    add-begin
+    begin-requires
+    add-begin-2
+    begin-requires-2
+    loop-holds
+    entry-at-requires
+    blank-tag-requires
+    slice-read-with-tag
+    with-tag-requires
+    slice-write-marks
+    add-q
+    loop-less
+    loop-again
+    same-length
+    returns)

@@ -1,0 +1,137 @@
+-- `decide::tags::tag_certified` meets its contract. The loop's invariant: the vertices of the round before w have their tag.
+-- The measure is the vertices that are left.
+-- Assumes nothing.
+use Prim.Native.Nat.{ℕ, _+_, _-_, _%_, _≤_, _<_}
+use mathlib.Core.Path.{_≡_, ap, _∙_}
+use mathlib.Core.Logic.{inl}
+use mathlib.Core.List.{List}
+use lib.ListN.{length}
+use Rattle.rules.specs.Record.{first, vertices}
+use Rattle.decide.specs.Range.{startOf}
+use Rattle.decide.specs.Certify.{certifiedAt}
+use Rattle.decide.specs.Work.{windowTag}
+use Rattle.decide.proofs.Ranges.{start-bound, start-mono, InRound, in-round}
+use Rattle.decide.proofs.Tagging.{TaggedTo, tagged-start, tagged-next, tagged-end, window-small}
+use native.Mathlib.Omega.{arith}
+use borrow.Author.Needs.{needs}
+use Rattle.decide.proofs.tags.tag_certified.Statement.{statement}
+use Rattle.decide.proofs.tags.tag_certified.Tie as tie
+
+-- which of the window the vertex at w certifies
+abbrev tag-of : (n : ℕ) → List ℕ → (round leader b e : ℕ) → ℕ → ℕ
+tag-of n t round leader b e w = windowTag (certifiedAt n (vertices first t) round leader w) b e
+
+abbrev Inv-loop : tie.InvT-loop
+Inv-loop n table round leader b e marks₀ end w₀ marks w = (w₀ ≤ w) × (w ≤ end) × TaggedTo w₀ (tag-of n table round leader b e) marks₀ w marks
+
+abbrev μ-loop : tie.MeasureT-loop
+μ-loop n table round leader b e marks₀ end w₀ marks w = end - w
+
+add-begin : tie.Need-add-begin Inv-loop μ-loop
+add-begin c = search needs
+
+begin-requires : tie.Need-begin-requires Inv-loop μ-loop
+begin-requires c κs = search needs
+
+add-begin-2 : tie.Need-add-begin-2 Inv-loop μ-loop
+add-begin-2 c = search needs
+
+begin-requires-2 : tie.Need-begin-requires-2 Inv-loop μ-loop
+begin-requires-2 c κs = search needs
+
+loop-holds : tie.Need-loop-holds Inv-loop μ-loop
+loop-holds c =
+    let s = c .before .before .before .before in
+    let a = s .args in
+    let t = a .table .now in
+    let m : startOf t (a .round + 2) 0 ≤ startOf t (a .round + 3) 0 = start-mono (a .n) t (s .pre .0) (a .round + 2) 0 (a .round + 3) 0 (inl (omega arith)) in
+    (omega arith, omega (arith, m, c .before .begin .ensures, c .begin2 .ensures), tagged-start (c .begin2 .result) (tag-of (a .n) t (a .round) (a .leader) (a .b) (a .e)) (a .marks .now))
+
+certified-at-requires : tie.Need-certified-at-requires Inv-loop μ-loop
+certified-at-requires c κs =
+    let l = c .before in
+    let b = l .before .before in
+    let s = b .before .before .before in
+    let a = s .args in
+    let t = a .table .now in
+    let up : l .loop .w < startOf t (a .round + 2 + 1) 0 = (let e : a .round + 2 + 1 ≡ a .round + 3 = omega arith in rw e (omega (arith, b .begin .ensures))) in
+    let i : InRound t (a .round + 2) (l .loop .w) = in-round (a .n) t (s .pre .0) (a .round + 2) (l .loop .w) (omega (arith, l .before .begin2 .ensures)) up in
+    (s .pre .0, (i .within, i .round))
+
+slice-read-with-tag : tie.Need-slice-read-with-tag Inv-loop μ-loop
+slice-read-with-tag c =
+    let l = c .before .before .before in
+    let b = l .before .before in
+    let s = b .before .before .before in
+    omega (arith, l .loop .inv .2 .retagged .same-length, s .pre .1 .1 .1, b .begin .ensures, start-bound (s .args .n) (s .args .table .now) (s .pre .0) (s .args .round + 3) 0)
+
+window-tag-requires : tie.Need-window-tag-requires Inv-loop μ-loop
+window-tag-requires c κs = search needs
+
+with-tag-requires : tie.Need-with-tag-requires Inv-loop μ-loop
+with-tag-requires c κs =
+    let p = c .before .before in
+    let s = p .before .before .before .before .before .before .before in
+    let small = window-small (p .certified-at .result) (s .args .b) (s .args .e) (s .pre .1 .1 .0) in
+    omega (arith, c .window-tag .ensures, small)
+
+slice-write-marks : tie.Need-slice-write-marks Inv-loop μ-loop
+slice-write-marks c =
+    let l = c .before .before .before .before .before in
+    let b = l .before .before in
+    let s = b .before .before .before in
+    omega (arith, l .loop .inv .2 .retagged .same-length, s .pre .1 .1 .1, b .begin .ensures, start-bound (s .args .n) (s .args .table .now) (s .pre .0) (s .args .round + 3) 0)
+
+add-w : tie.Need-add-w Inv-loop μ-loop
+add-w c = search needs
+
+loop-less : tie.Need-loop-less Inv-loop μ-loop
+loop-less c = search needs
+
+loop-again : tie.Need-loop-again Inv-loop μ-loop
+loop-again c =
+    let f = c .before in
+    let p = f .before .before in
+    let l = p .before .before in
+    let b = l .before .before in
+    let s = b .before .before .before in
+    let a = s .args in
+    let t = a .table .now in
+    let tag-at = tag-of (a .n) t (a .round) (a .leader) (a .b) (a .e) in
+    let low : l .loop .w < length (l .loop .marks) = omega (arith, l .loop .inv .2 .retagged .same-length, s .pre .1 .1 .1, b .begin .ensures, start-bound (a .n) t (s .pre .0) (a .round + 3) 0) in
+    let tag : c .with-tag .result % 128 ≡ tag-at (l .loop .w) = c .with-tag .ensures .1 ∙ f .window-tag .ensures ∙ ap (λ x. windowTag x (a .b) (a .e)) (p .certified-at .ensures) in
+    (omega arith, omega arith, tagged-next (l .before .begin2 .result) tag-at (a .marks .now) (l .loop .w) (l .loop .marks) (c .with-tag .result) low (c .with-tag .ensures .0) tag (l .loop .inv .2))
+
+same-length : tie.Need-same-length Inv-loop μ-loop
+same-length c = c .before .loop .inv .2 .retagged .same-length
+
+returns : tie.Need-returns Inv-loop μ-loop
+returns c =
+    let l = c .before in
+    let b = l .before .before in
+    let s = b .before .before .before in
+    let a = s .args in
+    let t = a .table .now in
+    tagged-end (a .n) t (s .pre .0) (a .round + 2) (a .round + 3) (l .before .begin2 .result) (tag-of (a .n) t (a .round) (a .leader) (a .b) (a .e)) (a .marks .now) (l .loop .marks) (l .loop .w) (omega arith) (l .before .begin2 .ensures) (omega (arith, b .begin .ensures)) (l .loop .inv .2)
+
+pub tag-certified-spec : {M : Type 1} → statement M
+tag-certified-spec =
+    tie.close
+    (tie.spec
+    Inv-loop
+    μ-loop
+    add-begin
+    begin-requires
+    add-begin-2
+    begin-requires-2
+    loop-holds
+    certified-at-requires
+    slice-read-with-tag
+    window-tag-requires
+    with-tag-requires
+    slice-write-marks
+    add-w
+    loop-less
+    loop-again
+    same-length
+    returns)

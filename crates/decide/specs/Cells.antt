@@ -1,0 +1,23 @@
+-- Decisions as they stand in cells, from the highest slot down.
+-- Assumes nothing.
+use Prim.Native.Nat.{ℕ, _<_}
+use mathlib.Core.Bool.{Bool, not}
+use mathlib.Core.List.{List}
+use lib.Dec.{leb, eqb}
+use lib.ListN.{length, getD}
+use Rattle.folds.specs.Folds.{_and_, firstTo}
+use Rattle.rules.specs.declared.Vertex.{Vertex}
+use Rattle.rules.specs.Record.{at}
+use Rattle.decide.specs.Sweep.{Swept}
+
+-- Where the first vertex of that round and leader stands that passes the test, or the number of records.
+unfoldable pub firstIn : List Vertex → (round leader : ℕ) → (Vertex → Bool) → ℕ
+firstIn vs round leader ok = firstTo (λ p. (eqb (at vs p .round) round and eqb (at vs p .author) leader) and ok (at vs p)) (length vs)
+
+-- The first cell from `from` on and below `top` that is not 1; `top` if there is none.
+unfoldable pub stopAt : List ℕ → (from top : ℕ) → ℕ
+stopAt cells from top = firstTo (λ t. leb from t and not (eqb (getD cells t 0) 1)) top
+
+-- The bytes hold the history of the anchor at a, looked at from p on; if a is no position, of nothing.
+abbrev pub Walked : List Vertex → (a p : ℕ) → List ℕ → Type 0
+Walked vs a p m = a < length vs → Swept vs a p m

@@ -1,0 +1,6 @@
+pub mod Range
+pub mod Certify
+pub mod Work
+pub mod Sweep
+pub mod Cells
+pub mod Promise

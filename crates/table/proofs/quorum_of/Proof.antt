@@ -1,0 +1,18 @@
+-- `table::quorum_of` meets its contract.
+-- Assumes nothing.
+use mathlib.Core.Path.{refl}
+use borrow.Author.Needs.{needs}
+use Rattle.table.proofs.quorum_of.Statement.{statement}
+use Rattle.table.proofs.quorum_of.Tie as tie
+
+mul-result : tie.Need-mul-result
+mul-result c = search needs
+
+add-result : tie.Need-add-result
+add-result c = search needs
+
+returns : tie.Need-returns
+returns c = refl
+
+pub quorum-of-spec : {M : Type 1} → statement M
+quorum-of-spec = tie.close (tie.spec mul-result add-result returns)

@@ -1,0 +1,60 @@
+//! A refusal in words.
+
+use crate::authors::quorum;
+use crate::check::Refusal;
+use crate::record::{encode, sum_of, Vertex, MOST_RECORDS};
+
+/// What is wrong, of the table or of the record that the refusal is about.
+pub fn in_words(n: u8, vertices: &[Vertex], refusal: Refusal) -> String {
+    match (refusal.number, vertices.get(refusal.position)) {
+        (1, _) => format!("{n} is not one of the author counts 4, 7, 10, .. 31"),
+        (2, _) => "the length is not a multiple of 138".to_string(),
+        (3, _) => format!("{} records, more than {MOST_RECORDS}", vertices.len()),
+        (number, Some(vertex)) => {
+            let what = of_record(number, n, vertex);
+            let (round, author, mark) = (vertex.round, vertex.author, vertex.mark);
+            format!("round {round}, author {author}, mark {mark}: {what}")
+        }
+        (_, None) => String::new(),
+    }
+}
+
+/// What is wrong with a record, by the number of the check.
+fn of_record(number: u8, n: u8, vertex: &Vertex) -> String {
+    match number {
+        4 => {
+            let right = sum_of(&encode(vertex));
+            format!("the sum is {} and ought to be {right}", vertex.sum)
+        }
+        5 => of_fields(n, vertex),
+        6 => "the name is not above the one before it".to_string(),
+        7 => of_entries(n, vertex),
+        8 => "a reference names no record earlier in the table".to_string(),
+        _ => "the round is above 1,400".to_string(),
+    }
+}
+
+fn of_fields(n: u8, vertex: &Vertex) -> String {
+    if vertex.padding != 0 {
+        return format!("the padding is {} and ought to be 0", vertex.padding);
+    }
+    if vertex.round == 0 {
+        return "rounds start at 1".to_string();
+    }
+    if vertex.mark == 0 {
+        return "a mark is never 0".to_string();
+    }
+    format!("authors are 0 to {}", n - 1)
+}
+
+fn of_entries(n: u8, vertex: &Vertex) -> String {
+    if vertex.round == 1 && vertex.references() > 0 {
+        return "a reference in round 1".to_string();
+    }
+    let past = vertex.refs.iter().skip(usize::from(n));
+    if past.clone().any(|&mark| mark != 0) {
+        return format!("a reference to author {n} or more");
+    }
+    let (has, least) = (vertex.references(), quorum(n));
+    format!("{has} references, fewer than 2f+1 = {least}")
+}

@@ -1,0 +1,128 @@
+//! What a picture shows of a table: its vertices and references, and what the
+//! settlement made of it.
+
+use crate::authors::{f_of, is_author_count, leader};
+use crate::check::Refusal;
+use crate::decide::{decide_all, Way};
+use crate::record::{decode, Name, Vertex, RECORD_BYTES};
+use crate::settle::{settle, Counts, Outcome};
+use crate::table::Table;
+use crate::text::Text;
+use std::collections::BTreeMap;
+
+pub enum Verdict {
+    Refused(Refusal),
+    Settled {
+        counts: Counts,
+        /// Index r-1 is round r.
+        ways: Vec<Way>,
+    },
+}
+
+/// One non-zero entry.
+pub struct Reference {
+    pub from: usize,
+    /// The vertex that it is to: only a refused table may have none.
+    pub to: Option<usize>,
+    /// The name in the entry. A record of round 0 has no round before it.
+    pub round: Option<u32>,
+    pub author: u8,
+}
+
+pub struct Scene {
+    pub n: u8,
+    pub vertices: Vec<Vertex>,
+    pub references: Vec<Reference>,
+    pub verdict: Verdict,
+    /// For each position, its place in the written order, from 1.
+    pub written: Vec<Option<usize>>,
+}
+
+impl Scene {
+    pub fn of(text: &Text) -> Scene {
+        let vertices: Vec<Vertex> = text.table.chunks(RECORD_BYTES).map(decode).collect();
+        let records = vertices.len();
+        let (mut cells, mut order) = (vec![0; records], vec![0; records]);
+        let mut taken = vec![0; records];
+        // No table passes with more rounds than records, so this is always enough.
+        let outcome = settle(text.n, &text.table, &mut cells, &mut order, &mut taken);
+        let mut written = vec![None; records];
+        let verdict = match outcome {
+            Outcome::Refused(refusal) => Verdict::Refused(refusal),
+            Outcome::Settled(counts) => {
+                for (&position, place) in order[..counts.written].iter().zip(1..) {
+                    written[position as usize] = Some(place);
+                }
+                let ways = decide_all(&Table::read(text.n, &text.table));
+                Verdict::Settled { counts, ways }
+            }
+        };
+        Scene {
+            n: text.n,
+            references: references(&vertices),
+            vertices,
+            verdict,
+            written,
+        }
+    }
+
+    /// How a round was decided; nothing in a refused table.
+    pub fn way(&self, round: u32) -> Option<Way> {
+        match &self.verdict {
+            Verdict::Refused(_) => None,
+            Verdict::Settled { ways, .. } => ways.get((round as usize).checked_sub(1)?).copied(),
+        }
+    }
+
+    /// The leader of a round, where n and the round have one.
+    pub fn leader(&self, round: u32) -> Option<u8> {
+        (is_author_count(self.n) && round > 0).then(|| leader(self.n, round))
+    }
+
+    pub fn is_of_leader(&self, position: usize) -> bool {
+        let vertex = &self.vertices[position];
+        self.leader(vertex.round) == Some(vertex.author)
+    }
+
+    /// The record that the refusal is about, if it is about one.
+    pub fn faulty(&self) -> Option<usize> {
+        match self.verdict {
+            Verdict::Refused(refusal) if refusal.number >= 4 => Some(refusal.position),
+            _ => None,
+        }
+    }
+
+    /// Whether there are more than f equivocators.
+    pub fn past_f(&self) -> bool {
+        match &self.verdict {
+            Verdict::Refused(_) => false,
+            Verdict::Settled { counts, .. } => counts.equivocators > f_of(self.n),
+        }
+    }
+}
+
+/// All non-zero entries. Where a name stands several times, the first is meant.
+fn references(vertices: &[Vertex]) -> Vec<Reference> {
+    let mut positions: BTreeMap<Name, usize> = BTreeMap::new();
+    for (position, vertex) in vertices.iter().enumerate() {
+        positions.entry(vertex.name()).or_insert(position);
+    }
+    let mut references = Vec::new();
+    for (from, vertex) in vertices.iter().enumerate() {
+        let round = vertex.round.checked_sub(1);
+        for (author, mark) in (0u8..).zip(vertex.refs).filter(|&(_, mark)| mark != 0) {
+            let named = round.map(|round| Name {
+                round,
+                author,
+                mark,
+            });
+            references.push(Reference {
+                from,
+                to: named.and_then(|name| positions.get(&name).copied()),
+                round,
+                author,
+            });
+        }
+    }
+    references
+}

@@ -42,7 +42,7 @@ pub fn bits(attack: &mut Attack) {
     }
 }
 
-/// Each bit of P7 that the sum covers, mended: an anchor decides there.
+/// Each bit of P7, with the sum mended: an anchor decides there.
 pub fn bits_behind_the_sum(attack: &mut Attack) {
     let table = p7().table();
     for bit in 0..8 * table.len() {

@@ -1,8 +1,8 @@
 //! Times of the proved check beside a plain one, on the same tables in the same run,
 //! those of the settlement (`settle_bench`), and the stack that each call takes.
 
+use crate::answers::answer;
 use crate::check::check;
-use crate::compare::answer;
 use crate::generate::honest;
 use crate::hostile::hostile;
 use crate::library::{self, stack_of};

@@ -88,14 +88,5 @@ fn entries_are_wrong(n: u8, vertex: &Vertex) -> bool {
 
 /// Check 8 asks this of every non-zero entry: it names a record earlier in the table.
 fn references_are_earlier(vertex: &Vertex, earlier: &BTreeSet<Name>) -> bool {
-    (0u8..)
-        .zip(vertex.refs)
-        .filter(|&(_, mark)| mark != 0)
-        .all(|(author, mark)| {
-            earlier.contains(&Name {
-                round: vertex.round - 1,
-                author,
-                mark,
-            })
-        })
+    vertex.referenced().all(|name| earlier.contains(&name))
 }

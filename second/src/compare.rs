@@ -1,200 +1,14 @@
-//! Asks the rules of this package and the proved code the same questions on random
-//! tables, and counts where they differ.
+//! Asks the rules of this package and other calls the same questions on random tables,
+//! and counts where they differ.
 
-use crate::check::{check, Refusal};
-use crate::generate::{lent, question, table, Kind, Lent};
-use crate::library::{self, Answer, Part, Settled};
-use crate::record::RECORD_BYTES;
+use crate::answers::Calls;
+use crate::ask::{ask, Case};
+use crate::generate::{table, Kind};
 use crate::rng::Rng;
-use crate::settle::{lookup, settle, Counts, Outcome};
 use std::collections::BTreeMap;
-use std::fmt::Debug;
 
 /// Of all differences, this many are shown.
 const SHOWN: usize = 5;
-
-/// One random input.
-struct Case {
-    kind: Kind,
-    seed: u64,
-    n: u8,
-    table: Vec<u8>,
-}
-
-/// What one call was answered: in one word, to count it by, and both answers where
-/// they differ.
-struct Asked {
-    call: &'static str,
-    word: String,
-    difference: Option<String>,
-}
-
-/// Every call that is compared. A further call is a further line here.
-const CALLS: [fn(&Case) -> Vec<Asked>; 3] = [ask_check, ask_lookup, ask_settle];
-
-fn ask_check(case: &Case) -> Vec<Asked> {
-    let expected = answer(check(case.n, &case.table));
-    let word = in_word(expected, "passed");
-    let told = library::check(case.n, &case.table);
-    vec![asked("check", word, expected, told)]
-}
-
-/// Both questions of the lookup, of one name.
-fn ask_lookup(case: &Case) -> Vec<Asked> {
-    let (n, table) = (case.n, &case.table);
-    let (round, author, mark) = question(table, case.seed);
-    let found = lookup(n, table, round, author, mark);
-    let part = part(found);
-    let why = answer(found.map(|_| ()));
-    let told = library::lookup(n, table, round, author, mark);
-    let told_why = library::lookup_answer(n, table, round, author, mark);
-    vec![
-        asked("lookup", part_in_word(part), part, told),
-        asked("lookup_answer", in_word(why, "found"), why, told_why),
-    ]
-}
-
-/// Both settle with equally filled buffers. What these hold then is compared to the
-/// last place, with what is to be kept.
-fn ask_settle(case: &Case) -> Vec<Asked> {
-    let (n, table) = (case.n, &case.table);
-    let before = lent(n, table, case.seed);
-    let (mut mine, mut theirs) = (before.clone(), before.clone());
-    let Lent {
-        cells,
-        order,
-        taken,
-    } = &mut mine;
-    let expected = settled(settle(n, table, cells, order, taken));
-    let Lent {
-        cells,
-        order,
-        taken,
-    } = &mut theirs;
-    let told = library::settle(n, table, cells, order, taken);
-    let buffers = Asked {
-        call: "settle, buffers",
-        word: buffers_in_word(&before, &mine).to_string(),
-        difference: buffers_difference(&mine, &theirs),
-    };
-    let word = settled_in_word(expected, &before);
-    vec![asked("settle", word, expected, told), buffers]
-}
-
-fn buffers_in_word(before: &Lent, after: &Lent) -> &'static str {
-    match before == after {
-        true => "as they were",
-        false => "written to",
-    }
-}
-
-/// The first place of each buffer at which the two differ.
-fn buffers_difference(mine: &Lent, theirs: &Lent) -> Option<String> {
-    let found = [
-        place_difference("cell", &mine.cells, &theirs.cells),
-        place_difference("order place", &mine.order, &theirs.order),
-        place_difference("taken byte", &mine.taken, &theirs.taken),
-    ];
-    let found: Vec<String> = found.into_iter().flatten().collect();
-    (!found.is_empty()).then(|| found.join("; "))
-}
-
-fn place_difference<T: PartialEq + Debug>(of: &str, mine: &[T], theirs: &[T]) -> Option<String> {
-    let mut both = mine.iter().zip(theirs).enumerate();
-    let (place, (a, b)) = both.find(|(_, (a, b))| a != b)?;
-    Some(format!("{of} {place}: second {a:?}, library {b:?}"))
-}
-
-fn asked<T: PartialEq + Debug>(call: &'static str, word: String, expected: T, told: T) -> Asked {
-    let difference = (expected != told).then(|| format!("second {expected:?}, library {told:?}"));
-    Asked {
-        call,
-        word,
-        difference,
-    }
-}
-
-/// The answer as the C interface gives it.
-pub fn answer(result: Result<(), Refusal>) -> Answer {
-    match result {
-        Ok(()) => Answer {
-            number: 0,
-            position: 0,
-        },
-        Err(refusal) => Answer {
-            number: u32::from(refusal.number),
-            position: refusal.position,
-        },
-    }
-}
-
-/// The part that a lookup hands back.
-fn part(found: Result<usize, Refusal>) -> Part {
-    match found {
-        Ok(begin) => Part {
-            begin,
-            length: RECORD_BYTES,
-        },
-        Err(_) => Part {
-            begin: 0,
-            length: 0,
-        },
-    }
-}
-
-/// The outcome as the C interface gives it.
-pub fn settled(outcome: Outcome) -> Settled {
-    let (refusal, counts) = match outcome {
-        Outcome::Settled(counts) => (Ok(()), counts),
-        Outcome::Refused(refusal) => (Err(refusal), NO_COUNTS),
-    };
-    let Answer { number, position } = answer(refusal);
-    Settled {
-        number,
-        position,
-        records: counts.records,
-        highest: counts.highest_round,
-        undecided: counts.first_undecided,
-        written: counts.written,
-        equivocators: counts.equivocators,
-    }
-}
-
-/// What a refusal has for counts.
-const NO_COUNTS: Counts = Counts {
-    records: 0,
-    highest_round: 0,
-    first_undecided: 0,
-    written: 0,
-    equivocators: 0,
-};
-
-/// Settled, and in buffers of what size, or the refusal.
-fn settled_in_word(settled: Settled, lent: &Lent) -> String {
-    let exact = lent.cells.len() == settled.highest as usize
-        && lent.order.len() == settled.records
-        && lent.taken.len() == settled.records;
-    match (settled.number, exact) {
-        (0, true) => "settled, exact buffers".to_string(),
-        (0, false) => "settled, some longer".to_string(),
-        (number, _) => format!("refusal {number:2}"),
-    }
-}
-
-fn in_word(answer: Answer, none: &str) -> String {
-    match answer.number {
-        0 => none.to_string(),
-        number => format!("refusal {number:2}"),
-    }
-}
-
-fn part_in_word(part: Part) -> String {
-    let word = match part.length {
-        0 => "empty part",
-        _ => "a record",
-    };
-    word.to_string()
-}
 
 /// What the comparison counted.
 pub struct Comparison {
@@ -211,13 +25,16 @@ impl Comparison {
         self.differed
     }
 
-    fn count(&mut self, case: &Case) {
+    fn count(&mut self, calls: &Calls, kind: Kind, seed: u64) {
+        let (n, table) = table(kind, seed);
         let mut differs = false;
-        for asked in CALLS.iter().flat_map(|call| call(case)) {
+        for asked in ask(calls, &Case::drawn(n, table, seed)) {
             if let Some(difference) = &asked.difference {
                 differs = true;
                 if self.shown.len() < SHOWN {
-                    self.shown.push(shown(case, asked.call, difference));
+                    let (call, kind) = (asked.call, kind.name());
+                    let shown = format!("{call}, kind {kind}, seed {seed}: {difference}");
+                    self.shown.push(shown);
                 }
             }
             *self.words.entry((asked.call, asked.word)).or_default() += 1;
@@ -229,13 +46,8 @@ impl Comparison {
     }
 }
 
-fn shown(case: &Case, call: &str, difference: &str) -> String {
-    let kind = case.kind.name();
-    format!("{call}, kind {kind}, seed {}: {difference}", case.seed)
-}
-
 /// Draws this many cases over all kinds and compares each.
-pub fn compare(cases: u64, seed: u64) -> Comparison {
+pub fn compare(calls: &Calls, cases: u64, seed: u64) -> Comparison {
     let mut rng = Rng::new(seed);
     let mut comparison = Comparison {
         agreed: 0,
@@ -245,14 +57,7 @@ pub fn compare(cases: u64, seed: u64) -> Comparison {
     };
     for _ in 0..cases {
         let kind = Kind::draw(&mut rng);
-        let seed = rng.draw();
-        let (n, table) = table(kind, seed);
-        comparison.count(&Case {
-            kind,
-            seed,
-            n,
-            table,
-        });
+        comparison.count(calls, kind, rng.draw());
     }
     comparison
 }

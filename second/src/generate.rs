@@ -476,18 +476,22 @@ pub struct Lent {
     pub taken: Vec<u8>,
 }
 
+/// How many cells a settlement needs, and how many order places and taken bytes. Of a
+/// refused table no number is asked; it may have one cell.
+pub fn needed(n: u8, table: &[u8]) -> (usize, usize) {
+    let mut records = table.chunks(RECORD_BYTES);
+    let rounds = match check(n, table) {
+        Ok(()) => records.next_back().map_or(0, |last| decode(last).round),
+        Err(_) => 1,
+    };
+    (rounds as usize, table.len() / RECORD_BYTES)
+}
+
 /// Lends memory that is exact, longer, or now and then too short.
 pub fn lent(n: u8, table: &[u8], seed: u64) -> Lent {
     let mut rng = Rng::new(seed ^ 0x1E47);
-    let records = table.len() / RECORD_BYTES;
-    let highest = match check(n, table) {
-        Ok(()) => table
-            .chunks(RECORD_BYTES)
-            .last()
-            .map_or(0, |r| decode(r).round),
-        Err(_) => 1,
-    };
-    let cells = lent_length(highest as usize, &mut rng);
+    let (rounds, records) = needed(n, table);
+    let cells = lent_length(rounds, &mut rng);
     let order = lent_length(records, &mut rng);
     let taken = lent_length(records, &mut rng);
     Lent {

@@ -297,15 +297,8 @@ pub fn view(vertices: &[Vertex], seen: usize, rng: &mut Rng) -> Vec<Vertex> {
     let mut kept: Vec<bool> = vertices.iter().map(|_| rng.chance(seen)).collect();
     for p in (0..vertices.len()).rev() {
         if kept[p] {
-            for (author, mark) in (0u8..).zip(vertices[p].refs) {
-                if mark != 0 {
-                    let round = vertices[p].round - 1;
-                    kept[positions[&Name {
-                        round,
-                        author,
-                        mark,
-                    }]] = true;
-                }
+            for name in vertices[p].referenced() {
+                kept[positions[&name]] = true;
             }
         }
     }

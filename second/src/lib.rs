@@ -3,25 +3,30 @@
 //!
 //! `authors`, `record`, `check`, `table`, `decide`, `settle` and `program` are the
 //! rules; `rng`, `grow`, `damage`, `generate` and `shares` make random tables and
-//! show what these reach; `vectors` makes the stored tables of the crate of that name;
-//! `through` compares a built program with `program`; `text` is a table to read and write by
-//! hand, `files` reads it, and `draw` makes a picture of it.
-//! With the feature `library`, `library` calls the proved code, `compare` asks both, and
+//! show what these reach; `made` and `examples` make tables by hand, and `vectors` the
+//! stored tables of the crate of that name; `through` compares a built program with
+//! `program`; `text` is a table to read and write by hand, `files` reads it, and `draw`
+//! makes a picture of it; `answers` and `ask` compare any calls with the rules, `compare`
+//! on random tables and `attack` on whole families.
+//! With the feature `library`, `library` calls the proved code, and
 //! `bench` measures the proved check against `plain`; `settle_bench` the settlement against
 //! `plain_settle`, on honest tables and on those of `hostile`.
 
 #![cfg_attr(not(feature = "library"), forbid(unsafe_code))]
 #![deny(unsafe_code)]
 
+pub mod answers;
+pub mod ask;
+pub mod attack;
 pub mod authors;
 #[cfg(feature = "library")]
 pub mod bench;
 pub mod check;
-#[cfg(feature = "library")]
 pub mod compare;
 pub mod damage;
 pub mod decide;
 pub mod draw;
+pub mod examples;
 pub mod files;
 pub mod generate;
 pub mod grow;
@@ -30,6 +35,7 @@ pub mod hostile;
 #[cfg(feature = "library")]
 #[allow(unsafe_code)]
 pub mod library;
+pub mod made;
 pub mod plain;
 pub mod plain_settle;
 pub mod program;

@@ -1,34 +1,15 @@
 //! The proved code, through its C interface (`include/record_box.h`). What is unsafe
 //! in this package stands here.
 
-/// A refusal's number and position; number 0 is none.
-#[repr(C)]
-#[derive(Clone, Copy, Debug, PartialEq, Eq)]
-pub struct Answer {
-    pub number: u32,
-    pub position: usize,
-}
+use crate::answers::{Answer, Calls, Part, Settled};
 
-/// Where a part of the lent table begins, and how many bytes it has.
-#[repr(C)]
-#[derive(Clone, Copy, Debug, PartialEq, Eq)]
-pub struct Part {
-    pub begin: usize,
-    pub length: usize,
-}
-
-/// What a settlement gives: the counts, or a refusal with every count 0.
-#[repr(C)]
-#[derive(Clone, Copy, Debug, PartialEq, Eq)]
-pub struct Settled {
-    pub number: u32,
-    pub position: usize,
-    pub records: usize,
-    pub highest: u32,
-    pub undecided: u32,
-    pub written: usize,
-    pub equivocators: usize,
-}
+/// The proved code.
+pub const CALLS: Calls = Calls {
+    check,
+    lookup,
+    lookup_answer,
+    settle,
+};
 
 #[link(name = "exports", kind = "static")]
 extern "C" {

@@ -26,6 +26,7 @@ second program --runner COMMAND --cases N --seed S
 second help                          prints this
 With the feature library, which .ci/library builds and runs:
 second compare --cases N --seed S    asks the proved code too, and counts where the answers differ
+second attack                        the same on whole families of tables, names and buffers
 second bench                         times of the proved check beside a plain one, of the settlement, and the stack of each call
 second once proved|plain N RECORDS   one check of an honest full table, for whoever counts its instructions
 ";
@@ -92,6 +93,7 @@ fn answer(words: &[&str]) -> Result<Output, String> {
         ["compare", "--cases", cases, "--seed", seed] => {
             linked::compare(number(cases)?, number(seed)?)
         }
+        ["attack"] => linked::attack(),
         ["bench"] => linked::bench(),
         ["once", by, n, records] => linked::once(by, number(n)?, number(records)?),
         ["help"] => Ok(Output::of(help().into_bytes())),
@@ -106,10 +108,19 @@ mod linked {
 
     /// Status 1 on a difference.
     pub fn compare(cases: u64, seed: u64) -> Result<Output, String> {
-        let comparison = second::compare::compare(cases, seed);
+        let comparison = second::compare::compare(&second::library::CALLS, cases, seed);
         Ok(Output {
             bytes: comparison.to_string().into_bytes(),
             status: u8::from(comparison.differed() > 0),
+        })
+    }
+
+    /// Status 1 on a difference.
+    pub fn attack() -> Result<Output, String> {
+        let attack = second::attack::attack(&second::library::CALLS);
+        Ok(Output {
+            bytes: attack.to_string().into_bytes(),
+            status: u8::from(attack.failed() > 0),
         })
     }
 
@@ -138,6 +149,10 @@ mod linked {
     const WITHOUT: &str = "built without the library; .ci/library builds and runs it with";
 
     pub fn compare(_cases: u64, _seed: u64) -> Result<Output, String> {
+        Err(WITHOUT.to_string())
+    }
+
+    pub fn attack() -> Result<Output, String> {
         Err(WITHOUT.to_string())
     }
 

@@ -22,14 +22,19 @@ pub fn run(input: &[u8]) -> Vec<u8> {
     let mut cells = vec![0; PROGRAM_RECORDS];
     let mut order = vec![0; PROGRAM_RECORDS];
     let mut taken = vec![0; PROGRAM_RECORDS];
-    let text = match settle(n, table, &mut cells, &mut order, &mut taken) {
-        Outcome::Refused(refusal) => refusal_line(refusal),
-        Outcome::Settled(counts) => settled_lines(table, counts, &cells, &order),
-    };
-    text.into_bytes()
+    let outcome = settle(n, table, &mut cells, &mut order, &mut taken);
+    lines(table, outcome, &cells, &order).into_bytes()
 }
 
-fn refusal_line(refusal: Refusal) -> String {
+/// What is printed of an outcome.
+pub fn lines(table: &[u8], outcome: Outcome, cells: &[u32], order: &[u32]) -> String {
+    match outcome {
+        Outcome::Refused(refusal) => refusal_line(refusal),
+        Outcome::Settled(counts) => settled_lines(table, counts, cells, order),
+    }
+}
+
+pub fn refusal_line(refusal: Refusal) -> String {
     format!("X {} {}\n", refusal.number, refusal.position)
 }
 

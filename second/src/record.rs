@@ -44,6 +44,16 @@ impl Vertex {
         }
     }
 
+    /// The names that it references, by author. It has a round before.
+    pub fn referenced(&self) -> impl Iterator<Item = Name> + '_ {
+        let entries = (0u8..).zip(self.refs).filter(|&(_, mark)| mark != 0);
+        entries.map(|(author, mark)| Name {
+            round: self.round - 1,
+            author,
+            mark,
+        })
+    }
+
     /// How many entries are references.
     pub fn references(&self) -> usize {
         self.refs.iter().filter(|&&mark| mark != 0).count()

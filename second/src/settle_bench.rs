@@ -1,11 +1,11 @@
 //! Times of the proved settlement beside a plain one, on honest tables and on hostile
 //! ones.
 
+use crate::answers::{settled, Settled};
 use crate::bench::{milliseconds, over, time};
-use crate::compare::settled;
 use crate::generate::{honest, Lent};
 use crate::hostile::{hostile, Hostile};
-use crate::library::{self, Settled};
+use crate::library;
 use crate::plain_settle;
 use crate::record::{MOST_RECORDS, RECORD_BYTES};
 use std::fmt::{Display, Formatter};

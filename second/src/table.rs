@@ -25,7 +25,7 @@ impl Table {
             .collect();
         let references = vertices
             .iter()
-            .map(|vertex| referenced_positions(vertex, &positions))
+            .map(|vertex| vertex.referenced().map(|name| positions[&name]).collect())
             .collect();
         // Records are in order of their rounds.
         let highest = vertices.last().map_or(0, |vertex| vertex.round);
@@ -72,18 +72,4 @@ impl Table {
     pub fn references(&self, p: usize) -> &[usize] {
         &self.references[p]
     }
-}
-
-fn referenced_positions(vertex: &Vertex, positions: &BTreeMap<Name, usize>) -> Vec<usize> {
-    (0u8..)
-        .zip(vertex.refs)
-        .filter(|&(_, mark)| mark != 0)
-        .map(|(author, mark)| {
-            positions[&Name {
-                round: vertex.round - 1,
-                author,
-                mark,
-            }]
-        })
-        .collect()
 }

@@ -1,6 +1,7 @@
 //! The built program against this one: a command is run on random inputs of the
 //! program, and what it prints is compared with what `program::run` says.
 
+use crate::examples::p2;
 use crate::generate::{input, Kind};
 use crate::program::{run, PROGRAM_BYTES};
 use crate::record::RECORD_BYTES;
@@ -26,6 +27,11 @@ pub fn through(runner: &str, cases: u64, seed: u64) -> io::Result<Through> {
     for (name, bytes) in edges(&mut rng) {
         through.compare(runner, &name, &bytes, bytes.len())?;
         through.compare(runner, &name, &bytes, 1000)?;
+    }
+    // n by itself, a byte more than a record, and no piece that ends with one.
+    let small = [vec![4], p2().table()].concat();
+    for piece in [1, 139, 100] {
+        through.compare(runner, "P2", &small, piece)?;
     }
     for _ in through.cases()..cases {
         let kind = Kind::draw(&mut rng);

@@ -4,18 +4,35 @@
 //! None aims at 9, as no table reaches it: a record above round 1,400 either names
 //! a record that isn't there (8), or stands on more than 4,096 records (3).
 
+mod settlements;
+
 use crate::check::{check, Refusal};
-use crate::record::{decode, encode_mended, sum_of, Name, Vertex, ENTRIES, RECORD_BYTES};
+use crate::examples::p2;
+use crate::generate::bytes_of;
+use crate::made::{vertex, Made};
+use crate::program::refusal_line;
+use crate::record::{decode, sum_of, Name, Vertex, RECORD_BYTES};
 use crate::settle::lookup;
+use settlements::{settlement_refusal, settlement_text, settlements};
 use std::path::Path;
 
 /// What is asked of a table.
-#[derive(Clone, Copy, Debug, PartialEq, Eq)]
+#[derive(Clone, Debug, PartialEq, Eq)]
 pub enum Question {
     Check,
     Lookup(Name),
     /// The check, and the check without the last byte.
     Twice,
+    /// The check, and a settlement for each.
+    Settle(Vec<Lengths>),
+}
+
+/// How many cells, order places and taken bytes are lent.
+#[derive(Clone, Copy, Debug, PartialEq, Eq)]
+pub struct Lengths {
+    pub cells: u16,
+    pub order: u16,
+    pub taken: u16,
 }
 
 pub struct Vector {
@@ -27,52 +44,72 @@ pub struct Vector {
 }
 
 impl Vector {
-    /// One byte for the question, for a lookup the name, then n, then the table.
+    /// One byte for the question; for a lookup the name, for settlements how many and
+    /// what is lent to each; then n, then the table.
     pub fn file(&self) -> Vec<u8> {
-        let mut file = match self.question {
-            Question::Check => vec![0],
-            Question::Lookup(_) => vec![1],
-            Question::Twice => vec![2],
-        };
-        if let Question::Lookup(asked) = self.question {
-            file.extend(asked.round.to_le_bytes());
-            file.push(asked.author);
-            file.extend(asked.mark.to_le_bytes());
+        let mut file = Vec::new();
+        match &self.question {
+            Question::Check => file.push(0),
+            Question::Lookup(asked) => {
+                file.push(1);
+                file.extend(asked.round.to_le_bytes());
+                file.push(asked.author);
+                file.extend(asked.mark.to_le_bytes());
+            }
+            Question::Twice => file.push(2),
+            Question::Settle(lent) => {
+                file.push(3);
+                file.push(u8::try_from(lent.len()).expect("a byte counts them"));
+                for lengths in lent {
+                    let all = [lengths.cells, lengths.order, lengths.taken];
+                    file.extend(all.into_iter().flat_map(u16::to_le_bytes));
+                }
+            }
         }
         file.push(self.n);
         file.extend(&self.table);
         file
     }
 
-    /// The refusals of its answers, each for a check or a lookup; `None` where
-    /// there is none.
+    /// The refusals of its answers, one for each call; `None` where there is none.
     pub fn refusals(&self) -> Vec<Option<Refusal>> {
         let checked = |table| check(self.n, table).err();
-        match self.question {
+        match &self.question {
             Question::Check => vec![checked(&self.table)],
-            Question::Lookup(asked) => vec![self.begin(asked).err()],
+            Question::Lookup(asked) => vec![self.begin(*asked).err()],
             Question::Twice => vec![
                 checked(&self.table),
                 checked(&self.table[..self.table.len() - 1]),
             ],
+            Question::Settle(lent) => {
+                let settled = |&lengths| settlement_refusal(self.n, &self.table, lengths);
+                let first = checked(&self.table);
+                [first]
+                    .into_iter()
+                    .chain(lent.iter().map(settled))
+                    .collect()
+            }
         }
     }
 
     /// What is printed under its name.
     pub fn answer(&self) -> String {
-        let good = match self.question {
-            Question::Lookup(_) => "found",
-            _ => "passed",
-        };
-        let told = self.refusals().into_iter().map(|refusal| match refusal {
-            Some(refusal) => format!("X {} {}\n", refusal.number, refusal.position),
+        let refusals = self.refusals();
+        let told = |refusal: Option<Refusal>, good: &str| match refusal {
+            Some(refusal) => refusal_line(refusal),
             None => format!("{good}\n"),
-        });
-        let mut text: String = told.collect();
-        if let Question::Lookup(asked) = self.question {
-            text.push_str(&self.part(asked));
+        };
+        match &self.question {
+            Question::Check | Question::Twice => refusals
+                .into_iter()
+                .map(|refusal| told(refusal, "passed"))
+                .collect(),
+            Question::Lookup(asked) => told(refusals[0], "found") + &self.part(*asked),
+            Question::Settle(lent) => {
+                let settled = |&lengths| settlement_text(self.n, &self.table, lengths);
+                told(refusals[0], "passed") + &lent.iter().map(settled).collect::<String>()
+            }
         }
-        text
     }
 
     fn begin(&self, asked: Name) -> Result<usize, Refusal> {
@@ -140,52 +177,14 @@ pub fn write(folder: &Path) -> std::io::Result<usize> {
 
 // ---- tables
 
-fn table_of(vertices: &[Vertex]) -> Vec<u8> {
-    vertices.iter().flat_map(encode_mended).collect()
-}
-
-/// A vertex that references mark 1 of these authors.
-fn vertex(round: u32, author: u8, mark: u32, authors: impl IntoIterator<Item = u8>) -> Vertex {
-    let mut refs = [0; ENTRIES];
-    for author in authors {
-        refs[usize::from(author)] = 1;
-    }
-    Vertex {
-        round,
-        mark,
-        refs,
-        batches: 0,
-        author,
-        padding: 0,
-        sum: 0,
-    }
-}
-
-/// Full rounds, all marks 1, cut after so many records.
-fn full(n: u8, records: usize) -> Vec<Vertex> {
-    (1..)
-        .flat_map(|round| (0..n).map(move |author| (round, author)))
-        .take(records)
-        .map(|(round, author)| {
-            let authors = if round == 1 { 0..0 } else { 0..n };
-            vertex(round, author, 1, authors)
-        })
-        .collect()
-}
-
-/// P2: rounds 1 to 3 of four authors, full.
-fn p2() -> Vec<Vertex> {
-    full(4, 12)
-}
-
 const MIDDLE: usize = 6;
 const LAST: usize = 11;
 
 /// P2 with one record changed, its sum right.
 fn changed(position: usize, how: impl FnOnce(&mut Vertex)) -> Vec<u8> {
-    let mut vertices = p2();
-    how(&mut vertices[position]);
-    table_of(&vertices)
+    let mut made = p2();
+    how(&mut made.vertices[position]);
+    made.table()
 }
 
 /// A table in which the sum of one record is off.
@@ -210,6 +209,7 @@ pub fn vectors() -> Vec<Vector> {
     all.extend(first_answers());
     all.extend(lookups());
     all.extend(lookups_elsewhere());
+    all.extend(settlements());
     all
 }
 
@@ -229,18 +229,18 @@ fn with(name: &str, position: usize, how: impl FnOnce(&mut Vertex)) -> Vector {
 
 /// P2 in which the sum of one record is off, checked with n = 4.
 fn with_sum_off(name: &str, position: usize, by: u16) -> Vector {
-    checked(name, 4, sum_off(table_of(&p2()), position, by))
+    checked(name, 4, sum_off(p2().table(), position, by))
 }
 
 /// 1, and the smallest and the largest count that pass.
 fn counts() -> Vec<Vector> {
-    let p2 = || table_of(&p2());
+    let p2 = || p2().table();
     vec![
         checked("n_0", 0, p2()),
         checked("n_3", 3, p2()),
         checked("n_4_passes", 4, p2()),
         checked("n_5", 5, p2()),
-        checked("n_31_passes", 31, table_of(&full(31, 32))),
+        checked("n_31_passes", 31, Made::full_rounds(31, 32).table()),
         checked("n_34", 34, p2()),
         checked("n_255", 255, p2()),
         checked("n_0_empty", 0, Vec::new()),
@@ -253,17 +253,16 @@ fn lengths() -> Vec<Vector> {
     vec![
         checked("empty_passes", 4, Vec::new()),
         checked("one_byte", 4, vec![0]),
-        checked("bytes_137", 4, table_of(&p2())[..137].to_vec()),
-        checked("bytes_138_passes", 4, table_of(&p2())[..138].to_vec()),
-        checked("bytes_139", 4, table_of(&p2())[..139].to_vec()),
-        checked("records_4096_passes", 4, table_of(&full(4, 4_096))),
+        checked("bytes_137", 4, p2().table()[..137].to_vec()),
+        checked("bytes_138_passes", 4, p2().table()[..138].to_vec()),
+        checked("bytes_139", 4, p2().table()[..139].to_vec()),
         // 2 before 3 with the last byte, and 3 before 4 without it.
         Vector {
             question: Question::Twice,
             ..checked(
                 "records_4097_a_byte_more_and_sum_wrong",
                 4,
-                one_byte(sum_off(table_of(&full(4, 4_097)), 0, 1)),
+                one_byte(sum_off(Made::full_rounds(4, 4_097).table(), 0, 1)),
             )
         },
     ]
@@ -271,11 +270,11 @@ fn lengths() -> Vec<Vector> {
 
 /// 4.
 fn sums() -> Vec<Vector> {
-    let mut padded = table_of(&p2());
+    let mut padded = p2().table();
     padded[MIDDLE * RECORD_BYTES + 135] = 1;
     let carried = Vertex {
         batches: 65_535,
-        ..vertex(1, 2, 65_535, [])
+        ..vertex(1, 2, 65_535, &[])
     };
     vec![
         with_sum_off("sum_wrong_first", 0, 1),
@@ -283,7 +282,7 @@ fn sums() -> Vec<Vector> {
         with_sum_off("sum_wrong_last", LAST, 1),
         with_sum_off("sum_high_byte_wrong", MIDDLE, 256),
         checked("sum_leaves_padding_out", 4, padded),
-        checked("sum_drops_carries_passes", 4, table_of(&[carried])),
+        checked("sum_drops_carries_passes", 4, bytes_of(&[carried])),
     ]
 }
 
@@ -307,13 +306,13 @@ fn fields() -> Vec<Vector> {
 /// 6. The first record cannot fail it.
 fn rising() -> Vec<Vector> {
     let same = |name: &str, position: usize| {
-        let mut vertices = p2();
+        let mut vertices = p2().vertices;
         vertices[position] = vertices[position - 1].clone();
-        checked(name, 4, table_of(&vertices))
+        checked(name, 4, bytes_of(&vertices))
     };
     let fall = |name: &str, high: (u8, u32), low: (u8, u32)| {
-        let two = [high, low].map(|(author, mark)| vertex(1, author, mark, []));
-        checked(name, 4, table_of(&two))
+        let two = [high, low].map(|(author, mark)| vertex(1, author, mark, &[]));
+        checked(name, 4, bytes_of(&two))
     };
     vec![
         same("same_name_second", 1),
@@ -343,14 +342,15 @@ fn entries() -> Vec<Vector> {
 
 /// 8.
 fn earlier() -> Vec<Vector> {
-    let mut moved = p2();
+    let mut moved = p2().vertices;
     moved.rotate_left(1);
+    let alone = vertex(2, 0, 1, &[(0, 1), (1, 1), (2, 1)]);
     vec![
-        checked("names_nothing_first", 4, table_of(&[vertex(2, 0, 1, 0..3)])),
+        checked("names_nothing_first", 4, bytes_of(&[alone])),
         with("names_other_mark_middle", MIDDLE, |v| v.refs[0] = 2),
         with("names_mark_of_two_bytes", MIDDLE, |v| v.refs[3] = 0x101),
         with("names_other_mark_last", LAST, |v| v.refs[3] = u32::MAX),
-        checked("names_a_later_record", 4, table_of(&moved)),
+        checked("names_a_later_record", 4, bytes_of(&moved)),
         with("names_an_empty_round_last", LAST, |v| v.round = 5),
     ]
 }
@@ -363,7 +363,7 @@ fn first_answers() -> Vec<Vector> {
     let named_before = |v: &mut Vertex| v.author = 0;
     let few = |v: &mut Vertex| v.refs[..2].fill(0);
     let unnamed = |v: &mut Vertex| v.refs[2] = 9;
-    let sum_off_and_a_byte = [sum_off(table_of(&p2()), 0, 1), vec![0]].concat();
+    let sum_off_and_a_byte = [sum_off(p2().table(), 0, 1), vec![0]].concat();
     vec![
         checked("1_before_2", 5, vec![0; 137]),
         checked("2_before_4", 4, sum_off_and_a_byte),
@@ -391,16 +391,12 @@ fn first_answers() -> Vec<Vector> {
 
 /// A table with gaps between its names, and one with two marks in a round.
 fn sparse() -> Vec<Vertex> {
-    let mut last = vertex(2, 2, 7, []);
-    last.refs[0] = 256;
-    last.refs[1] = 1;
-    last.refs[3] = 65_536;
     vec![
-        vertex(1, 0, 5, []),
-        vertex(1, 0, 256, []),
-        vertex(1, 1, 1, []),
-        vertex(1, 3, 65_536, []),
-        last,
+        vertex(1, 0, 5, &[]),
+        vertex(1, 0, 256, &[]),
+        vertex(1, 1, 1, &[]),
+        vertex(1, 3, 65_536, &[]),
+        vertex(2, 2, 7, &[(0, 256), (1, 1), (3, 65_536)]),
     ]
 }
 
@@ -436,7 +432,7 @@ fn lookups() -> Vec<Vector> {
         ("not_found_author_255", (1, 255, 1)),
         ("not_found_everything_highest", (u32::MAX, 255, u32::MAX)),
     ];
-    let table = || table_of(&sparse());
+    let table = || bytes_of(&sparse());
     names
         .map(|(name, key)| asked(&format!("lookup_{name}"), 4, table(), key))
         .into()
@@ -444,7 +440,7 @@ fn lookups() -> Vec<Vector> {
 
 /// In other tables: a refused one answers with its own refusal.
 fn lookups_elsewhere() -> Vec<Vector> {
-    let table = table_of(&sparse());
+    let table = bytes_of(&sparse());
     let one = table[..RECORD_BYTES].to_vec();
     let refused = sum_off(table.clone(), 4, 1);
     vec![

@@ -1,12 +1,15 @@
 // Stored tables, one after the other: the arguments are names of files of data/, and what the proved calls say of each is printed under its name.
-// A file has one byte for the question, for a lookup the name that is asked for, then n, then the table.
+// A file has one byte for the question; for a lookup the name that is asked for, for settlements how many and the three lengths of what is
+// lent to each; then n, then the table.
 ghost use mathlib.Core.Path.{_≡_};
 ghost use lib.ListN.{length};
+ghost use Prim.Native.Nat.{_≤_};
 use libc::STDOUT_FILENO;
 use rules::Checked;
 use rules::LookupAnswer;
 use rules::Name;
 use rules::Refusal;
+use rules::Settlement;
 
 // The check is question 0.
 const LOOKUP: u8 = 1;
@@ -14,11 +17,41 @@ const LOOKUP: u8 = 1;
 // The check, and the check without the last byte.
 const TWICE: u8 = 2;
 
+// The check, and the settlement with what is lent in several lengths.
+const SETTLE: u8 = 3;
+
+// How many cells, order places and taken bytes are lent.
+struct Lent {
+    cells: usize,
+    order: usize,
+    taken: usize,
+}
+
+// The same number in places that follow each other.
+struct Run {
+    number: u32,
+    times: usize,
+}
+
 // 4,097 records and what stands around them fit. The contract gives only the length, so that no proof has the contents before it.
 fn input_buffer() -> [u8; 566000]
     ensures { λ r. ⌜ 566000 ≡ length r ⌝ }
 {
     [0; 566000]
+}
+
+// Cells or order places before a settlement, more than any table needs: no settlement writes this number. Only the length is told here too.
+fn places() -> [u32; 5000]
+    ensures { λ r. ⌜ 5000 ≡ length r ⌝ }
+{
+    [9999; 5000]
+}
+
+// Taken bytes before a settlement: no settlement leaves this number.
+fn taken_bytes() -> [u8; 5000]
+    ensures { λ r. ⌜ 5000 ≡ length r ⌝ }
+{
+    [9; 5000]
 }
 
 // The bytes from byte i on, and none from the end on.
@@ -91,10 +124,155 @@ fn say_lookup(input: &[u8]) {
     say_part(table::lookup(n, table, x.round, x.author, x.mark));
 }
 
+// A number and how often it stands there in a row; nothing if it doesn't.
+fn say_run(r: Run) {
+    if r.times == 0 {
+        return;
+    }
+    say(b" ");
+    io::print_decimal(STDOUT_FILENO, r.number as u64);
+    if 1 < r.times {
+        say(b"*");
+        io::print_decimal(STDOUT_FILENO, r.times as u64);
+    }
+}
+
+// The run with one more number, or a new one, and the old one is said. No buffer is so long that the count would wrap.
+fn said_up_to(r: Run, number: u32) -> Run {
+    if number == r.number {
+        return Run {
+            number,
+            times: std::num::wrapping_add_usize(r.times, 1),
+        };
+    }
+    say_run(r);
+    Run { number, times: 1 }
+}
+
+// All cells or all order places, what was kept too.
+fn say_places(b: &[u32]) {
+    let mut r = Run {
+        number: 0,
+        times: 0,
+    };
+    let mut i: usize = 0;
+    while i < b.len() {
+        r = said_up_to(r, b[i]);
+        i += 1;
+    }
+    say_run(r);
+    say(b"\n");
+}
+
+// The same of taken bytes.
+fn say_taken(b: &[u8]) {
+    let mut r = Run {
+        number: 0,
+        times: 0,
+    };
+    let mut i: usize = 0;
+    while i < b.len() {
+        r = said_up_to(r, record::byte_at(b, i) as u32);
+        i += 1;
+    }
+    say_run(r);
+    say(b"\n");
+}
+
+// Every line that the program of document 01 would print.
+fn say_lines(s: Settlement, table: &[u8], cells: &[u32], order: &[u32]) {
+    let lines = report::output::output_lines(s);
+    let mut i: usize = 0;
+    while i < lines {
+        let mut line = [0u8; 112];
+        let k = report::output::output_line(s, table, cells, order, i, &mut line);
+        io::write_all(STDOUT_FILENO, &line[..k]);
+        i += 1;
+    }
+}
+
+// The lines, and all that the lent buffers hold then.
+fn say_settled(n: u8, table: &[u8], cells: &mut [u32], order: &mut [u32], taken: &mut [u8]) {
+    let s = settlement::settle(n, table, cells, order, taken);
+    say_lines(s, table, cells, order);
+    say(b"cells");
+    say_places(cells);
+    say(b"order");
+    say_places(order);
+    say(b"taken");
+    say_taken(taken);
+}
+
+// The lesser of two lengths.
+fn at_most(k: usize, most: usize) -> usize
+    ensures { λ r. ⌜ r ≤ most ⌝ }
+{
+    if k < most {
+        return k;
+    }
+    most
+}
+
+// The same with as much of the buffers as is lent.
+fn say_settled_in(
+    n: u8,
+    table: &[u8],
+    lent: Lent,
+    cells: &mut [u32],
+    order: &mut [u32],
+    taken: &mut [u8],
+) {
+    let c = at_most(lent.cells, cells.len());
+    let o = at_most(lent.order, order.len());
+    let t = at_most(lent.taken, taken.len());
+    say_settled(
+        n,
+        table,
+        &mut cells[0..c],
+        &mut order[0..o],
+        &mut taken[0..t],
+    );
+}
+
+fn say_settlement(n: u8, table: &[u8], lent: Lent) {
+    let mut cells = places();
+    let mut order = places();
+    let mut taken = taken_bytes();
+    say_settled_in(n, table, lent, &mut cells, &mut order, &mut taken);
+}
+
+// How much is lent, from byte i on.
+fn lent_at(input: &[u8], i: usize) -> Lent
+    requires { ⌜ i ≤ 2000 ⌝ }
+{
+    Lent {
+        cells: record::u16_at(input, i) as usize,
+        order: record::u16_at(input, i + 2) as usize,
+        taken: record::u16_at(input, i + 4) as usize,
+    }
+}
+
+// The check, then the settlement with each of the sets of lengths.
+fn say_settlements(input: &[u8]) {
+    let count = record::byte_at(input, 1) as usize;
+    let n = record::byte_at(input, 2 + 6 * count);
+    let table = rest(input, 3 + 6 * count);
+    say_check(n, table);
+    let mut i: usize = 0;
+    while i < count {
+        say_settlement(n, table, lent_at(input, 2 + 6 * i));
+        i += 1;
+    }
+}
+
 fn say_answer(input: &[u8]) {
     let question = record::byte_at(input, 0);
     if question == LOOKUP {
         say_lookup(input);
+        return;
+    }
+    if question == SETTLE {
+        say_settlements(input);
         return;
     }
     let n = record::byte_at(input, 1);

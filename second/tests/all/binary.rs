@@ -1,7 +1,7 @@
 //! The binary's sub-commands.
 
-use crate::made::{p2, p7};
 use crate::stored::folder;
+use second::examples::{p2, p7};
 use second::generate::{input, Kind};
 use std::io::Write;
 use std::process::{Command, Output, Stdio};
@@ -118,7 +118,8 @@ fn unknown_arguments_are_told() {
 #[cfg(not(feature = "library"))]
 #[test]
 fn without_the_library_is_told() {
-    for arguments in [&["compare", "--cases", "1", "--seed", "1"][..], &["bench"]] {
+    let compare = ["compare", "--cases", "1", "--seed", "1"];
+    for arguments in [&compare[..], &["attack"], &["bench"]] {
         let output = second(arguments, &[]);
         assert_eq!(output.status.code(), Some(2), "{arguments:?}");
         assert!(output.stdout.is_empty());

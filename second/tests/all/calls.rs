@@ -1,6 +1,7 @@
 //! What the calls give: lent memory, lookup, the program's input.
 
-use crate::made::{p2, p7, p8, prints, refusal, settled, vertex, Made};
+use second::examples::{p2, p7, p7_up_to, p8};
+use second::made::{prints, refusal, settled, vertex, Made};
 use second::program::run;
 use second::record::encode_mended;
 use second::settle::{lookup, settle, Counts, Outcome};
@@ -115,7 +116,7 @@ fn p8_cells() {
 /// it is written.
 #[test]
 fn cells_past_the_first_undecided_round() {
-    let given = crate::made::p7_up_to(4).settled();
+    let given = p7_up_to(4).settled();
     assert_eq!(given.cells[..4], [0, 7, 0, 0]);
     assert_eq!(given.counts().first_undecided, 1);
     assert_eq!(given.counts().written, 0);

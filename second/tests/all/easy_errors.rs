@@ -1,17 +1,16 @@
 //! For each of the "Easy errors here" of document 01, and for counts that are off
 //! by one, a table on which the error would give another answer.
 
-use crate::made::{p7, p7_up_to, p8, Made};
+use second::examples::{
+    blank_by_two_authors, certified_by_two_authors, p7, p7_up_to, p8, skipped_in_between,
+    supporting, undecided_in_between,
+};
+use second::made::Made;
 
 /// Three vertices of round 3 certify, of two authors.
 #[test]
 fn certifying_authors_are_counted_and_not_vertices() {
-    let mut made = Made::new(4);
-    made.full(1);
-    made.full(2);
-    made.one(3, 0, &[0, 1, 2, 3]);
-    made.twin(3, 0, 2, &[0, 1, 2, 3]);
-    made.one(3, 1, &[0, 1, 2, 3]);
+    let mut made = certified_by_two_authors();
     let expected = "\
 S 11 3 1 0 1
 R 1 undecided
@@ -27,11 +26,7 @@ R 3 undecided
 /// Three vertices of round 2 are blank, of two authors.
 #[test]
 fn blank_authors_are_counted_and_not_vertices() {
-    let mut made = Made::new(4);
-    made.full(1);
-    made.one(2, 1, &[1, 2, 3]);
-    made.twin(2, 1, 2, &[1, 2, 3]);
-    made.one(2, 2, &[1, 2, 3]);
+    let mut made = blank_by_two_authors();
     let expected = "\
 S 7 2 1 0 1
 R 1 undecided
@@ -81,12 +76,6 @@ fn the_search_does_not_start_at_r_plus_4() {
 /// history has the certificate for round 1.
 #[test]
 fn an_undecided_round_is_not_passed_over() {
-    let mut made = p7_up_to(4);
-    made.some(5, &[0, 1]);
-    made.one(5, 2, &[0, 1, 2]);
-    made.one(5, 3, &[0, 1, 2]);
-    made.full(6);
-    made.full(7);
     let expected = "\
 S 28 7 1 0 0
 R 1 undecided
@@ -97,20 +86,12 @@ R 5 commit 0 1
 R 6 undecided
 R 7 undecided
 ";
-    assert_eq!(made.prints(), expected);
+    assert_eq!(undecided_in_between().prints(), expected);
 }
 
 /// Round 4 is skipped, so the search goes on to round 5.
 #[test]
 fn a_skipped_round_is_passed_over() {
-    let mut made = p7_up_to(4);
-    made.some(5, &[0]);
-    for author in 1..=3 {
-        made.one(5, author, &[0, 1, 2]);
-    }
-    made.full(6);
-    made.full(7);
-    // (5,0) references (4,0), and that references (3,0), which certifies.
     let expected = "\
 S 28 7 6 17 0
 R 1 commit 0 1
@@ -138,7 +119,7 @@ V 4 2 1
 V 4 3 1
 V 5 0 1
 ";
-    assert_eq!(made.prints(), expected);
+    assert_eq!(skipped_in_between().prints(), expected);
 }
 
 /// (3,0) certifies and is not in the history of (4,3); but (4,0) and others have
@@ -151,35 +132,18 @@ fn the_certificate_is_looked_for_in_the_anchors_history() {
 /// Two support mark 1 and two mark 2; four reference the leader one way or other.
 #[test]
 fn a_reference_to_one_leader_vertex_is_no_support_for_the_other() {
-    let mut made = Made::new(4);
-    made.put(1, 0, 1, &[]);
-    made.put(1, 0, 2, &[]);
-    made.some(1, &[1, 2, 3]);
-    for (author, leader_mark) in [(0, 1), (1, 1), (2, 2), (3, 2)] {
-        made.put(2, author, 1, &[(0, leader_mark), (1, 1), (2, 1), (3, 1)]);
-    }
-    made.full(3);
     let expected = "\
 S 13 3 1 0 1
 R 1 undecided
 R 2 undecided
 R 3 undecided
 ";
-    assert_eq!(made.prints(), expected);
+    assert_eq!(supporting([1, 1, 2, 2]).prints(), expected);
 }
 
 /// The second of the leader's vertices is the one with support.
 #[test]
 fn the_supported_mark_is_committed() {
-    let mut made = Made::new(4);
-    made.put(1, 0, 1, &[]);
-    made.put(1, 0, 2, &[]);
-    made.some(1, &[1, 2, 3]);
-    for author in 0..4 {
-        let leader_mark = if author == 0 { 1 } else { 2 };
-        made.put(2, author, 1, &[(0, leader_mark), (1, 1), (2, 1), (3, 1)]);
-    }
-    made.full(3);
     let expected = "\
 S 13 3 2 1 1
 R 1 commit 0 2
@@ -187,7 +151,7 @@ R 2 undecided
 R 3 undecided
 V 1 0 2
 ";
-    assert_eq!(made.prints(), expected);
+    assert_eq!(supporting([1, 2, 2, 2]).prints(), expected);
 }
 
 /// A vertex of round 3 with references to two supporters and one other does not

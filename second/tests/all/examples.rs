@@ -1,6 +1,7 @@
 //! The examples of document 01: sums, P1 to P14, and those that are run.
 
-use crate::made::{p2, p7, p8, prints, vertex, Made};
+use second::examples::{p12, p13_or_p14, p2, p3, p4, p5, p7, p8, p9, padded};
+use second::made::{prints, vertex};
 use second::record::{decode, encode, encode_mended, sum_of};
 
 #[test]
@@ -59,10 +60,6 @@ V 1 0 1
     assert_eq!(p2().prints(), expected);
 }
 
-fn p3() -> Made {
-    p2().without(3, 3)
-}
-
 #[test]
 fn p3_three_certify() {
     let expected = "\
@@ -75,10 +72,6 @@ V 1 0 1
     assert_eq!(p3().prints(), expected);
 }
 
-fn p4() -> Made {
-    p3().without(3, 2)
-}
-
 #[test]
 fn p4_two_certify() {
     let expected = "\
@@ -88,15 +81,6 @@ R 2 undecided
 R 3 undecided
 ";
     assert_eq!(p4().prints(), expected);
-}
-
-fn p5() -> Made {
-    let mut made = Made::new(4);
-    made.some(1, &[1, 2, 3]);
-    for author in 1..=3 {
-        made.one(2, author, &[1, 2, 3]);
-    }
-    made
 }
 
 #[test]
@@ -173,18 +157,6 @@ V 4 3 1
     assert_eq!(p8().prints(), expected);
 }
 
-fn p9() -> Made {
-    let mut made = Made::new(4);
-    made.put(1, 0, 1, &[]);
-    made.put(1, 0, 2, &[]);
-    made.some(1, &[1, 2, 3]);
-    made.one(2, 0, &[1, 2, 3]);
-    made.one(2, 1, &[0, 1, 2, 3]);
-    made.put(2, 2, 1, &[(0, 2), (1, 1), (2, 1), (3, 1)]);
-    made.one(2, 3, &[1, 2, 3]);
-    made
-}
-
 #[test]
 fn p9_a_second_leader_vertex() {
     let expected = "\
@@ -193,14 +165,6 @@ R 1 undecided
 R 2 undecided
 ";
     assert_eq!(p9().prints(), expected);
-}
-
-/// A round 1 record with padding 1, and its sum off by this much.
-fn padded(off: u16) -> Vec<u8> {
-    let mut padded = vertex(1, 0, 1, &[]);
-    padded.padding = 1;
-    padded.sum = sum_of(&encode(&padded)).wrapping_add(off);
-    encode(&padded).to_vec()
 }
 
 #[test]
@@ -217,60 +181,23 @@ fn p11_padding_and_the_sum_off() {
     assert_eq!(prints(4, &padded(0u16.wrapping_sub(256))), "X 4 0\n");
 }
 
-fn p12() -> Made {
-    let mut made = Made::new(4);
-    made.some(1, &[0, 0]);
-    made
-}
-
 #[test]
 fn p12_a_record_twice() {
     assert_eq!(p12().prints(), "X 6 1\n");
 }
 
-/// Round 1 of authors 0, 1, 2, then a round 2 record of this author and with these
-/// references: P13 and P14.
-fn three_and_one(author: u8, authors: &[u8]) -> Made {
-    let mut made = Made::new(4);
-    made.some(1, &[0, 1, 2]);
-    made.one(2, author, authors);
-    made
-}
-
 #[test]
 fn p13_two_references() {
     for author in 0..4 {
-        let made = three_and_one(author, &[0, 1]);
-        assert_eq!(made.prints(), "X 7 3\n");
+        assert_eq!(p13_or_p14(author, &[0, 1]).prints(), "X 7 3\n");
     }
 }
 
 #[test]
 fn p14_a_reference_to_no_record() {
     for author in 0..4 {
-        let made = three_and_one(author, &[1, 2, 3]);
-        assert_eq!(made.prints(), "X 8 3\n");
+        assert_eq!(p13_or_p14(author, &[1, 2, 3]).prints(), "X 8 3\n");
     }
-}
-
-/// The tables of P1 to P14, in this order; n is 4 in all of them.
-pub fn p_tables() -> [Vec<u8>; 14] {
-    [
-        Vec::new(),
-        p2().table(),
-        p3().table(),
-        p4().table(),
-        p5().table(),
-        p5().without(2, 3).table(),
-        p7().table(),
-        p8().table(),
-        p9().table(),
-        padded(0),
-        padded(1),
-        p12().table(),
-        three_and_one(0, &[0, 1]).table(),
-        three_and_one(0, &[1, 2, 3]).table(),
-    ]
 }
 
 #[test]

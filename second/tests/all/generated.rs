@@ -1,10 +1,10 @@
 //! What must hold of every generated table.
 
-use crate::made::{prints, settled, Settled};
 use second::check::check;
-use second::generate::{input, lent, question, table, Kind};
+use second::generate::{bytes_of, input, lent, question, table, Kind};
+use second::made::{prints, settled, Settled};
 use second::program::run;
-use second::record::{decode, encode_mended, Name, Vertex};
+use second::record::{decode, Name, Vertex};
 use second::rng::Rng;
 use second::settle::{lookup, settle, Outcome};
 use std::collections::BTreeMap;
@@ -23,10 +23,6 @@ fn passing_tables(seeds: u64) -> impl Iterator<Item = (Kind, u64, u8, Vec<u8>)> 
 
 fn vertices(table: &[u8]) -> Vec<Vertex> {
     table.chunks(138).map(decode).collect()
-}
-
-fn bytes(vertices: &[Vertex]) -> Vec<u8> {
-    vertices.iter().flat_map(encode_mended).collect()
 }
 
 fn position_of(vertices: &[Vertex]) -> BTreeMap<Name, usize> {
@@ -81,13 +77,7 @@ fn the_order_is_closed_and_without_repeats() {
         let mut taken = vec![0; vertices.len()];
         for &p in given.written() {
             let vertex = &vertices[p as usize];
-            for (author, mark) in (0..).zip(vertex.refs).filter(|&(_, mark)| mark != 0) {
-                let round = vertex.round - 1;
-                let name = Name {
-                    round,
-                    author,
-                    mark,
-                };
+            for name in vertex.referenced() {
                 assert_eq!(taken[position_of[&name]], 1, "{kind:?} {seed}");
             }
             assert_eq!(taken[p as usize], 0, "{kind:?} {seed}: twice");
@@ -151,7 +141,7 @@ fn marks_may_be_renamed_in_order() {
         }
         assert_eq!(
             settled(n, &table),
-            settled(n, &bytes(&vertices)),
+            settled(n, &bytes_of(&vertices)),
             "{kind:?} {seed}"
         );
     }

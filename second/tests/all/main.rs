@@ -1,12 +1,12 @@
 //! All tests, as one program.
 
+mod attack;
 mod binary;
 mod calls;
 mod drawn;
 mod easy_errors;
 mod examples;
 mod generated;
-mod made;
 mod past_f;
 mod plain;
 mod refusals;

@@ -1,7 +1,8 @@
 //! Every part of checks 4 to 8, and which of several failing checks answers.
 
-use crate::made::{p2, refusal, vertex, Made};
 use second::check::{check, Refusal};
+use second::examples::p2;
+use second::made::{refusal, vertex, Made};
 use second::record::{encode, encode_mended, Vertex};
 
 fn checked(made: &Made) -> Result<(), Refusal> {

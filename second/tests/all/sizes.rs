@@ -1,16 +1,14 @@
 //! Tables of 4,096 and 4,097 records.
 
-use crate::made::{refusal, settled, Made};
 use second::check::check;
+use second::examples::tallest;
+use second::made::{refusal, Made};
 use second::settle::{settle, Outcome};
 
 /// 1,024 full rounds.
 #[test]
 fn records_4_096() {
-    let mut made = Made::new(4);
-    for round in 1..=1_024 {
-        made.full(round);
-    }
+    let made = Made::full_rounds(4, 4_096);
     let table = made.table();
     assert_eq!(check(4, &table), Ok(()));
     let counts = made.settled().counts();
@@ -24,28 +22,16 @@ fn records_4_096() {
 
 #[test]
 fn records_4_097() {
-    let mut made = Made::new(4);
-    for round in 1..=1_024 {
-        made.full(round);
-    }
-    made.some(1_025, &[0]);
+    let made = Made::full_rounds(4, 4_097);
     assert_eq!(check(4, &made.table()), Err(refusal(3, 0)));
     let outcome = settle(4, &made.table(), &mut [], &mut [], &mut []);
     assert_eq!(outcome, Outcome::Refused(refusal(3, 0)));
 }
 
-/// The most rounds that a table can have: 1,365 of three records and one more.
+/// The most rounds that a table can have.
 #[test]
 fn rounds_1_366() {
-    let mut made = Made::new(4);
-    made.some(1, &[0, 1, 2]);
-    for round in 2..=1_365 {
-        for author in 0..3 {
-            made.one(round, author, &[0, 1, 2]);
-        }
-    }
-    made.one(1_366, 0, &[0, 1, 2]);
-    let given = settled(4, &made.table());
+    let given = tallest().settled();
     let counts = given.counts();
     assert_eq!(counts.records, 4_096);
     assert_eq!(counts.highest_round, 1_366);

@@ -1,8 +1,8 @@
 //! The tables of `examples/`: what is stored is what is meant, and settles as is stored
 //! beside it.
 
-use crate::examples::p_tables;
 use second::decide::{certified_in_history, commit_qualifies, decide_all, Way};
+use second::examples::p_tables;
 use second::files;
 use second::program::run;
 use second::settle::equivocators;

@@ -1,7 +1,8 @@
 //! The text form of a table.
 
-use crate::made::{p7, vertex};
+use second::examples::p7;
 use second::generate::{input, Kind};
+use second::made::vertex;
 use second::record::{encode, encode_mended};
 use second::rng::Rng;
 use second::text::{of_input, read};

@@ -1,9 +1,9 @@
 //! Tables made by hand.
 
-use second::check::Refusal;
-use second::program::run;
-use second::record::{encode_mended, Vertex, ENTRIES};
-use second::settle::{settle, Counts, Outcome};
+use crate::check::Refusal;
+use crate::program::run;
+use crate::record::{encode_mended, Vertex, ENTRIES};
+use crate::settle::{settle, Counts, Outcome};
 
 /// Vertices in the order they were put; nothing sorts them.
 #[derive(Clone)]
@@ -67,6 +67,19 @@ impl Made {
     pub fn full(&mut self, round: u32) {
         let all: Vec<u8> = (0..self.n).collect();
         self.some(round, &all);
+    }
+
+    /// Full rounds, cut after so many records.
+    pub fn full_rounds(n: u8, records: usize) -> Made {
+        let mut made = Made::new(n);
+        for round in 1.. {
+            if made.vertices.len() >= records {
+                break;
+            }
+            made.full(round);
+        }
+        made.vertices.truncate(records);
+        made
     }
 
     pub fn without(&self, round: u32, author: u8) -> Made {
@@ -137,43 +150,4 @@ pub fn settled(n: u8, table: &[u8]) -> Settled {
 
 pub fn refusal(number: u8, position: usize) -> Refusal {
     Refusal { number, position }
-}
-
-/// P2: rounds 1 to 3 full.
-pub fn p2() -> Made {
-    let mut made = Made::new(4);
-    made.full(1);
-    made.full(2);
-    made.full(3);
-    made
-}
-
-/// P7 up to a round.
-pub fn p7_up_to(rounds: u32) -> Made {
-    let mut made = Made::new(4);
-    made.full(1);
-    made.some(2, &[0, 1, 2]);
-    made.one(2, 3, &[1, 2, 3]);
-    made.one(3, 0, &[0, 1, 2]);
-    made.one(3, 1, &[1, 2, 3]);
-    made.one(3, 2, &[1, 2, 3]);
-    made.one(3, 3, &[1, 2, 3]);
-    for round in 4..=rounds {
-        made.full(round);
-    }
-    made
-}
-
-pub fn p7() -> Made {
-    p7_up_to(6)
-}
-
-/// P8: P7, but (4,3) references 1, 2, 3.
-pub fn p8() -> Made {
-    let mut made = p7_up_to(3);
-    made.some(4, &[0, 1, 2]);
-    made.one(4, 3, &[1, 2, 3]);
-    made.full(5);
-    made.full(6);
-    made
 }

@@ -1,0 +1,146 @@
+//! Asks the rules of this package and other calls the same questions.
+
+use crate::answers::{Answer, Calls, Part, Settled, RULES};
+use crate::generate::{lent, question, Lent};
+use std::fmt::Debug;
+
+/// Everything that the calls are asked with.
+pub struct Case {
+    pub n: u8,
+    pub table: Vec<u8>,
+    /// What is lent to a settlement, with its contents.
+    pub lent: Lent,
+    /// The name that is looked up: round, author, mark.
+    pub name: (u32, u8, u32),
+}
+
+impl Case {
+    /// With buffers and a name by chance.
+    pub fn drawn(n: u8, table: Vec<u8>, seed: u64) -> Case {
+        Case {
+            n,
+            lent: lent(n, &table, seed),
+            name: question(&table, seed),
+            table,
+        }
+    }
+}
+
+/// What one call was answered: in one word, to count it by, and both answers where
+/// they differ.
+pub struct Asked {
+    pub call: &'static str,
+    pub word: String,
+    pub difference: Option<String>,
+}
+
+/// Every call that is compared. A further call is a further line here.
+const CALLS: [fn(&Calls, &Case) -> Vec<Asked>; 3] = [ask_check, ask_lookup, ask_settle];
+
+/// Asks every call.
+pub fn ask(calls: &Calls, case: &Case) -> Vec<Asked> {
+    CALLS.iter().flat_map(|call| call(calls, case)).collect()
+}
+
+fn ask_check(calls: &Calls, case: &Case) -> Vec<Asked> {
+    let expected = (RULES.check)(case.n, &case.table);
+    let told = (calls.check)(case.n, &case.table);
+    vec![asked("check", in_word(expected, "passed"), expected, told)]
+}
+
+/// Both questions of the lookup, of one name.
+fn ask_lookup(calls: &Calls, case: &Case) -> Vec<Asked> {
+    let (n, table) = (case.n, &case.table);
+    let (round, author, mark) = case.name;
+    let part = (RULES.lookup)(n, table, round, author, mark);
+    let told = (calls.lookup)(n, table, round, author, mark);
+    let why = (RULES.lookup_answer)(n, table, round, author, mark);
+    let told_why = (calls.lookup_answer)(n, table, round, author, mark);
+    vec![
+        asked("lookup", part_in_word(part), part, told),
+        asked("lookup_answer", in_word(why, "found"), why, told_why),
+    ]
+}
+
+/// Both settle with equally filled buffers. What these hold then is compared to the
+/// last place, with what is to be kept.
+fn ask_settle(calls: &Calls, case: &Case) -> Vec<Asked> {
+    let (mut mine, mut theirs) = (case.lent.clone(), case.lent.clone());
+    let expected = settle_in(&RULES, case, &mut mine);
+    let told = settle_in(calls, case, &mut theirs);
+    let buffers = Asked {
+        call: "settle, buffers",
+        word: buffers_in_word(&case.lent, &mine).to_string(),
+        difference: buffers_difference(&mine, &theirs),
+    };
+    let word = settled_in_word(expected, &case.lent);
+    vec![asked("settle", word, expected, told), buffers]
+}
+
+fn settle_in(calls: &Calls, case: &Case, lent: &mut Lent) -> Settled {
+    let (cells, order, taken) = (&mut lent.cells, &mut lent.order, &mut lent.taken);
+    (calls.settle)(case.n, &case.table, cells, order, taken)
+}
+
+fn buffers_in_word(before: &Lent, after: &Lent) -> &'static str {
+    match before == after {
+        true => "as they were",
+        false => "written to",
+    }
+}
+
+/// The first place of each buffer at which the two differ.
+fn buffers_difference(mine: &Lent, theirs: &Lent) -> Option<String> {
+    if mine == theirs {
+        return None;
+    }
+    let found = [
+        place_difference("cell", &mine.cells, &theirs.cells),
+        place_difference("order place", &mine.order, &theirs.order),
+        place_difference("taken byte", &mine.taken, &theirs.taken),
+    ];
+    let found: Vec<String> = found.into_iter().flatten().collect();
+    Some(found.join("; "))
+}
+
+fn place_difference<T: PartialEq + Debug>(of: &str, mine: &[T], theirs: &[T]) -> Option<String> {
+    let mut both = mine.iter().zip(theirs).enumerate();
+    let (place, (a, b)) = both.find(|(_, (a, b))| a != b)?;
+    Some(format!("{of} {place}: rules {a:?}, asked {b:?}"))
+}
+
+fn asked<T: PartialEq + Debug>(call: &'static str, word: String, expected: T, told: T) -> Asked {
+    let difference = (expected != told).then(|| format!("rules {expected:?}, asked {told:?}"));
+    Asked {
+        call,
+        word,
+        difference,
+    }
+}
+
+/// Settled, and in buffers of what size, or the refusal.
+fn settled_in_word(settled: Settled, lent: &Lent) -> String {
+    let exact = lent.cells.len() == settled.highest as usize
+        && lent.order.len() == settled.records
+        && lent.taken.len() == settled.records;
+    match (settled.number, exact) {
+        (0, true) => "settled, exact buffers".to_string(),
+        (0, false) => "settled, some longer".to_string(),
+        (number, _) => format!("refusal {number:2}"),
+    }
+}
+
+fn in_word(answer: Answer, none: &str) -> String {
+    match answer.number {
+        0 => none.to_string(),
+        number => format!("refusal {number:2}"),
+    }
+}
+
+fn part_in_word(part: Part) -> String {
+    let word = match part.length {
+        0 => "empty part",
+        _ => "a record",
+    };
+    word.to_string()
+}

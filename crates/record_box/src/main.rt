@@ -52,11 +52,11 @@ fn answer(input: &[u8], cells: &mut [u32], order: &mut [u32], taken: &mut [u8]) 
 
 // Every line in turn.
 fn print(s: Settlement, table: &[u8], cells: &[u32], order: &[u32]) {
-    let lines = report::output::output_lines(s);
+    let lines = report::output_lines(s);
     let mut i: usize = 0;
     while i < lines {
         let mut line = [0u8; 112];
-        let k = report::output::output_line(s, table, cells, order, i, &mut line);
+        let k = report::output_line(s, table, cells, order, i, &mut line);
         io::write_all(STDOUT_FILENO, &line[..k]);
         i += 1;
     }

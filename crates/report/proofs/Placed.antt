@@ -16,11 +16,11 @@ use Rattle.rules.specs.declared.Outcome.the-variants.{Settled, Refused}
 use Rattle.rules.specs.Record.{first, recordAt, decode, records, vertices, at, noVertex, nameOf}
 use Rattle.rules.specs.Program.{lineX, lineS, lineR, lineV}
 use Rattle.rules.proofs.Records.{vertices-length, vertices-at}
-use Rattle.report.specs.Fills.{Fills}
-use Rattle.report.specs.Lines.{lineUndecided, lineSkipped, lineCommitted, lineNamed}
+use Rattle.lines.specs.Fills.{Fills}
+use Rattle.lines.specs.Lines.{lineUndecided, lineSkipped, lineCommitted, lineNamed}
+use Rattle.lines.proofs.Lines.{undecided-line, skipped-line, committed-line, named-line}
+use Rattle.lines.proofs.Text.{fills-so}
 use Rattle.report.specs.Output.{decisionOf, laterLine, settledLine, outputLine, outputLines}
-use Rattle.report.proofs.Lines.{undecided-line, skipped-line, committed-line, named-line}
-use Rattle.report.proofs.Text.{fills-so}
 
 -- ---- the name at a position
 

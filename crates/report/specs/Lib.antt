@@ -1,4 +1,1 @@
-pub mod Lines
-pub mod Fills
-pub mod Text
 pub mod Output

@@ -76,13 +76,13 @@ fn say(text: &[u8]) {
 
 fn say_refused(r: Refusal) {
     let mut line = [0u8; 112];
-    let k = report::line_refused(r, &mut line);
+    let k = lines::line_refused(r, &mut line);
     io::write_all(STDOUT_FILENO, &line[..k]);
 }
 
 fn say_vertex(x: Name) {
     let mut line = [0u8; 112];
-    let k = report::line_vertex(x, &mut line);
+    let k = lines::line_vertex(x, &mut line);
     io::write_all(STDOUT_FILENO, &line[..k]);
 }
 
@@ -181,11 +181,11 @@ fn say_taken(b: &[u8]) {
 
 // Every line that the program of document 01 would print.
 fn say_lines(s: Settlement, table: &[u8], cells: &[u32], order: &[u32]) {
-    let lines = report::output::output_lines(s);
+    let lines = report::output_lines(s);
     let mut i: usize = 0;
     while i < lines {
         let mut line = [0u8; 112];
-        let k = report::output::output_line(s, table, cells, order, i, &mut line);
+        let k = report::output_line(s, table, cells, order, i, &mut line);
         io::write_all(STDOUT_FILENO, &line[..k]);
         i += 1;
     }

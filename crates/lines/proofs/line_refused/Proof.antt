@@ -1,0 +1,64 @@
+-- `lines::line_refused` meets its contract: the letter, the number and the position in turn are the line.
+-- Assumes nothing.
+use mathlib.Core.Path.{_∙_}
+use Rattle.rules.specs.Program.{bytesOf, lineX}
+use Rattle.lines.specs.Text.{Begun, Numbered}
+use Rattle.lines.proofs.Text.{first-word, next-word, last-word}
+use borrow.Author.Needs.{needs}
+use Rattle.lines.proofs.line_refused.Statement.{statement}
+use Rattle.lines.proofs.line_refused.Tie as tie
+
+number-of-requires : tie.Need-number-of-requires
+number-of-requires c κs = search needs
+
+position-of-requires : tie.Need-position-of-requires
+position-of-requires c κs = search needs
+
+begun-requires : tie.Need-begun-requires
+begun-requires c κs = search needs
+
+cast-with-number : tie.Need-cast-with-number
+cast-with-number c = search needs
+
+with-number-requires : tie.Need-with-number-requires
+with-number-requires c κs = search needs
+
+with-number-requires-2 : tie.Need-with-number-requires-2
+with-number-requires-2 c κs = search needs
+
+ended-requires : tie.Need-ended-requires
+ended-requires c κs = search needs
+
+same-length : tie.Need-same-length
+same-length c = search needs
+
+returns : tie.Need-returns
+unfolding bytesOf lineX
+returns c =
+    let e = c .before .before in
+    let e2 = e .before .before in
+    let e1 = e2 .before in
+    let e0 = e1 .before in
+    let number = e0 .before .before in
+    let position = e0 .before in
+    let letter : Begun 88 (e0 .begun .result) = e0 .begun .ensures in
+    let first : Numbered (e0 .begun .result) (number .number-of .result) (e1 .with-number .result) = e1 .with-number .ensures in
+    let second : Numbered (e1 .with-number .result) (position .position-of .result) (e2 .with-number2 .result) = e2 .with-number2 .ensures in
+    last-word
+    (e2 .with-number2 .result)
+    (rw (← number .number-of .ensures, ← position .position-of .ensures) (first-word letter _ ∙ next-word (first .grown) _ ∙ next-word (second .grown) _))
+    (e .ended .ensures)
+
+pub line-refused-spec : {M : Type 1} → statement M
+line-refused-spec =
+    tie.close
+    (tie.spec
+    number-of-requires
+    position-of-requires
+    begun-requires
+    cast-with-number
+    with-number-requires
+    with-number-requires-2
+    ended-requires
+    same-length
+    returns)

@@ -1,0 +1,67 @@
+-- `lines::line_vertex` meets its contract: the letter and the three parts of the name in turn are the line.
+-- Assumes nothing.
+use mathlib.Core.Path.{_∙_}
+use Rattle.rules.specs.Program.{bytesOf}
+use Rattle.lines.specs.Lines.{lineNamed}
+use Rattle.lines.proofs.Text.{first-word, next-word, last-word}
+use borrow.Author.Needs.{needs}
+use Rattle.lines.proofs.line_vertex.Statement.{statement}
+use Rattle.lines.proofs.line_vertex.Tie as tie
+
+begun-requires : tie.Need-begun-requires
+begun-requires c κs = search needs
+
+cast-with-number : tie.Need-cast-with-number
+cast-with-number c = search needs
+
+with-number-requires : tie.Need-with-number-requires
+with-number-requires c κs = search needs
+
+cast-with-number-2 : tie.Need-cast-with-number-2
+cast-with-number-2 c = search needs
+
+with-number-requires-2 : tie.Need-with-number-requires-2
+with-number-requires-2 c κs = search needs
+
+cast-with-number-3 : tie.Need-cast-with-number-3
+cast-with-number-3 c = search needs
+
+with-number-requires-3 : tie.Need-with-number-requires-3
+with-number-requires-3 c κs = search needs
+
+ended-requires : tie.Need-ended-requires
+ended-requires c κs = search needs
+
+same-length : tie.Need-same-length
+same-length c = search needs
+
+returns : tie.Need-returns
+unfolding bytesOf lineNamed
+returns c =
+    let e = c .before .before in
+    let e3 = e .before .before in
+    let e2 = e3 .before .before in
+    let e1 = e2 .before .before in
+    let e0 = e1 .before .before in
+    last-word
+    (e3 .with-number3 .result)
+    (first-word (e0 .begun .ensures) _
+    ∙ next-word (e1 .with-number .ensures .grown) _
+    ∙ next-word (e2 .with-number2 .ensures .grown) _
+    ∙ next-word (e3 .with-number3 .ensures .grown) _)
+    (e .ended .ensures)
+
+pub line-vertex-spec : {M : Type 1} → statement M
+line-vertex-spec =
+    tie.close
+    (tie.spec
+    begun-requires
+    cast-with-number
+    with-number-requires
+    cast-with-number-2
+    with-number-requires-2
+    cast-with-number-3
+    with-number-requires-3
+    ended-requires
+    same-length
+    returns)

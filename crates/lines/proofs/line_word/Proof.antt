@@ -1,0 +1,49 @@
+-- `lines::line_word` meets its contract: the letter, the round and the word in turn are the line.
+-- Assumes nothing.
+use mathlib.Core.Path.{_∙_}
+use Rattle.rules.specs.Program.{bytesOf}
+use Rattle.lines.specs.Lines.{lineWord}
+use Rattle.lines.proofs.Text.{first-word, next-word, last-word}
+use borrow.Author.Needs.{needs}
+use Rattle.lines.proofs.line_word.Statement.{statement}
+use Rattle.lines.proofs.line_word.Tie as tie
+
+begun-requires : tie.Need-begun-requires
+begun-requires c κs = search needs
+
+with-number-requires : tie.Need-with-number-requires
+with-number-requires c κs = search needs
+
+with-word-requires : tie.Need-with-word-requires
+with-word-requires c κs = search needs
+
+ended-requires : tie.Need-ended-requires
+ended-requires c κs = search needs
+
+same-length : tie.Need-same-length
+same-length c = search needs
+
+returns : tie.Need-returns
+unfolding bytesOf lineWord
+returns c =
+    let e = c .before .before in
+    let e2 = e .before .before in
+    let e1 = e2 .before in
+    let e0 = e1 .before in
+    last-word
+    (e2 .with-word .result)
+    (first-word (e0 .begun .ensures) _
+    ∙ next-word (e1 .with-number .ensures .grown) _
+    ∙ next-word (e2 .with-word .ensures) _)
+    (e .ended .ensures)
+
+pub line-word-spec : {M : Type 1} → statement M
+line-word-spec =
+    tie.close
+    (tie.spec
+    begun-requires
+    with-number-requires
+    with-word-requires
+    ended-requires
+    same-length
+    returns)

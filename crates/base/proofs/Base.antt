@@ -26,8 +26,8 @@ use Rattle.agreement.proofs.Lent.{demand-3-in-buffers}
 use Rattle.settlement.specs.Promise.{SettlesTo}
 use Rattle.settlement.proofs.Unique.{settle-unique}
 use Rattle.table.proofs.check.Met as check-call
-use Rattle.table.proofs.lookup.Met as lookup-call
-use Rattle.table.proofs.lookup_answer.Met as lookup-answer-call
+use Rattle.lookup.proofs.lookup.Met as lookup-call
+use Rattle.lookup.proofs.lookup_answer.Met as lookup-answer-call
 use Rattle.settlement.proofs.settle.Met as settle-call
 use Rattle.exports.proofs.record_box_check.Met as exported-check
 use Rattle.exports.proofs.record_box_lookup.Met as exported-lookup

@@ -25,8 +25,8 @@ use Rattle.agreement.specs.Agreement.{Premises, Demand3}
 use Rattle.agreement.specs.Buffers.{AgreeIn}
 use Rattle.settlement.specs.Promise.{SettlesTo}
 use Rattle.table.proofs.check.Statement as check-call
-use Rattle.table.proofs.lookup.Statement as lookup-call
-use Rattle.table.proofs.lookup_answer.Statement as lookup-answer-call
+use Rattle.lookup.proofs.lookup.Statement as lookup-call
+use Rattle.lookup.proofs.lookup_answer.Statement as lookup-answer-call
 use Rattle.settlement.proofs.settle.Statement as settle-call
 use Rattle.settlement.proofs.settle.Kinds as settle-kinds
 use Rattle.settlement.proofs.settle.Reads as settle-promise

@@ -27,9 +27,9 @@ use Rattle.rules.proofs.Names.{name-path, same-name, name-same}
 use Rattle.rules.proofs.Records.{find-name}
 use Rattle.rules.proofs.Accepted.{Accepted, accepted, mark-pos, find-at}
 use Rattle.rules.proofs.Support.{references-is, is-references}
-use Rattle.table.specs.Part.{named}
+use Rattle.table.specs.Named.{named}
 use Rattle.table.specs.Search.{findBelow}
-use Rattle.table.proofs.Lookups.{find-below}
+use Rattle.table.proofs.Finds.{find-below}
 use Rattle.decide.specs.Certify.{backs, countMark, enoughOf, certifiedAt}
 
 -- ---- an array of 31 that is filled from its front and is 0 from there on

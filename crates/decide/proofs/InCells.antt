@@ -1,4 +1,4 @@
--- The decisions as they stand in cells: the highest round, where the indirect search stops, who is chosen, and what a round's cell holds.
+-- The decisions as they stand in cells: where the indirect search stops, who is chosen, and what a round's cell holds.
 -- Assumes nothing.
 use Prim.Native.Nat.{ℕ, suc, pred, _+_, _-_, _*_, _≤_, _<_, min}
 use mathlib.Core.Path.{_≡_, refl, sym, ap, _∙_, subst}
@@ -31,7 +31,7 @@ use Rattle.rules.proofs.Support.{references-is, certifies-is}
 use Rattle.rules.proofs.Decisions.{committed-decided}
 use Rattle.rules.proofs.Decide.{lowest-first, Anchored, no-anchor, anchored, anchored-is, decisions-length, decisions-at, decisions-past, leads, slot-is}
 use Rattle.rules.proofs.Highest.{one-later}
-use Rattle.table.proofs.Names.{record-part}
+use Rattle.table.proofs.Highest.{highest-empty}
 use Rattle.decide.specs.Range.{startOf}
 use Rattle.decide.specs.Certify.{certifiedAt}
 use Rattle.decide.specs.Work.{historyAt, Retagged}
@@ -39,19 +39,6 @@ use Rattle.decide.specs.Sweep.{Swept}
 use Rattle.decide.specs.Cells.{firstIn, stopAt, Walked}
 use Rattle.decide.proofs.Ranges.{InRound, Under, start-bound, start-under, in-round, round-in, round-limit}
 use Rattle.decide.proofs.Sweeps.{history-size, history-low, marked-far, swept-retagged}
-
--- ---- the highest round
-
-pub highest-empty : (t : List ℕ) → records first t ≡ 0 → highest (vertices first t) ≡ 0
-unfolding highest
-highest-empty t e = ap (λ (v : Vertex). v .round) (List·getD-eq-default (vertices first t) noVertex (omega (arith, vertices-length first t)))
-
-pub highest-last : (t : List ℕ) (k : ℕ) → k ≡ records first t → k ≢ 0
-    → highest (vertices first t) ≡ number 4 (take (138 * (k - 1) + 138 - 138 * (k - 1)) (drop (138 * (k - 1)) t)) 0
-unfolding highest decode
-highest-last t k e z =
-    let last : pred (length (vertices first t)) ≡ k - 1 = omega (arith, vertices-length first t) in
-    rw (record-part t (k - 1)) (ap (λ (j : ℕ). at (vertices first t) j .round) last ∙ ap (λ (v : Vertex). v .round) (vertices-at first t (k - 1) (omega arith)))
 
 -- ---- where the indirect search stops
 

@@ -20,9 +20,9 @@ use Rattle.rules.specs.Check.{roundAbove, checkRecord, check}
 use Rattle.rules.proofs.Records.{vertices-at}
 use Rattle.rules.proofs.Refusals.{when-passed, then-both, each-passed}
 use Rattle.rules.proofs.Accepted.{accepted}
-use Rattle.table.specs.Part.{named}
+use Rattle.table.specs.Named.{named}
 use Rattle.table.specs.Search.{nameAt}
-use Rattle.table.proofs.Lookups.{falls, place-first, rise-all}
+use Rattle.table.proofs.Finds.{falls, place-first, rise-all}
 use Rattle.decide.specs.Range.{startOf}
 
 -- of a lower round, or of the round and by a lower author

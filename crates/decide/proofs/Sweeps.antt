@@ -28,7 +28,7 @@ use Rattle.rules.proofs.Accepted.{Accepted, accepted, find-at, vertexOf-at, pos
 use Rattle.rules.proofs.Support.{references-is, is-references, references-entry, references-earlier}
 use Rattle.rules.proofs.History.{Follows, ReferencesIn, reached-at, history-length, history-is}
 use Rattle.table.specs.Search.{nameAt, placeOf, findBelow}
-use Rattle.table.specs.Part.{named}
+use Rattle.table.specs.Named.{named}
 use Rattle.table.proofs.Names.{name-at, record-part}
 use Rattle.table.proofs.Earlier.{entry-named}
 use Rattle.table.proofs.Search.{Falls, halves-first, found-here}

@@ -1,4 +1,4 @@
--- Each public function has one result: any two results that meet its promise are equal, and so is what it leaves in the lent cells and bytes.
+-- `decide` has one result: any two results that meet its promise are equal, and so is what it leaves in the lent cells and bytes.
 -- `Post` is the promise as it stands in the contract, so a weaker one would not pass here.
 -- Assumes nothing.
 use Prim.Native.Nat.{ℕ}
@@ -9,8 +9,6 @@ use Rattle.rules.specs.declared.Checked.{Checked}
 use Rattle.rules.specs.Settlement.{Buffers}
 use Rattle.rules.proofs.Only.{Only}
 use Rattle.decide.specs.Promise.{DecidesTo, cellsAfter, takenAfter}
-use Rattle.decide.proofs.highest_of.Kinds as highest-kinds
-use Rattle.decide.proofs.highest_of.Reads as highest
 use Rattle.decide.proofs.decide.Kinds as decide-kinds
 use Rattle.decide.proofs.decide.Reads as decide
 
@@ -18,9 +16,6 @@ decides-once : {n : ℕ} {t : List ℕ} {before : Buffers} {x y : Checked} {c d 
 decides-once {n} {t} {before} p q =
     let e = p .answer ∙ sym (q .answer) in
     (e, (p .in-cells ∙ ap (λ r. cellsAfter r n t (before .cells)) e ∙ sym (q .in-cells), p .in-taken ∙ ap (λ r. takenAfter r t (before .taken)) e ∙ sym (q .in-taken)))
-
-pub highest-of-unique : Only 1 highest-kinds.ps highest-kinds.r (λ κs x e y f. x ≡ y) highest.Post
-highest-of-unique κs a x y e f p q = p ∙ sym q
 
 pub decide-unique : Only 4 decide-kinds.ps decide-kinds.r (λ κs x e y f. (x ≡ y) × ((now (e .1 .1 .0) ≡ now (f .1 .1 .0)) × (now (e .1 .1 .1 .1 .0) ≡ now (f .1 .1 .1 .1 .0)))) decide.Post
 decide-unique κs a x y e f p q = decides-once p q

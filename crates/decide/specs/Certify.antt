@@ -9,7 +9,7 @@ use Rattle.folds.specs.Folds.{_and_, countTo, firstTo, tabulate}
 use Rattle.rules.specs.declared.Vertex.{Vertex}
 use Rattle.rules.specs.Record.{at, entry, vertexOf}
 use Rattle.rules.specs.Support.{certifies}
-use Rattle.table.specs.Part.{named}
+use Rattle.table.specs.Named.{named}
 
 -- Entry i of the list: the mark that the vertex of (round, i, refs i) holds for the leader. 0 if there is none, and from n on.
 unfoldable pub backs : ℕ → List Vertex → List ℕ → (round leader : ℕ) → List ℕ

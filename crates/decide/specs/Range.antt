@@ -3,7 +3,7 @@
 use Prim.Native.Nat.{ℕ}
 use mathlib.Core.List.{List}
 use Rattle.rules.specs.Record.{first, records}
-use Rattle.table.specs.Part.{named}
+use Rattle.table.specs.Named.{named}
 use Rattle.table.specs.Search.{placeOf}
 
 abbrev pub startOf : List ℕ → (round author : ℕ) → ℕ

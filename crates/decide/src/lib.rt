@@ -2,8 +2,6 @@
 ghost use mathlib.Core.Path.{_≡_};
 ghost use Prim.Native.Nat.{_≤_};
 ghost use lib.ListN.{length};
-ghost use Rattle.rules.specs.Record.{first, vertices};
-ghost use Rattle.rules.specs.Decide.{highest};
 ghost use Rattle.rules.specs.Settlement.{lent};
 ghost use Rattle.decide.specs.Work.{bytesOver};
 ghost use Rattle.decide.specs.Promise.{DecidesTo};
@@ -17,17 +15,6 @@ mod history;
 mod range;
 mod rounds;
 mod tags;
-
-// The round of the last record; 0 for an empty table.
-pub fn highest_of(table: &[u8]) -> u32
-    ensures { λ r. ⌜ r ≡ highest (vertices first (now (table .entry))) ⌝ }
-{
-    let k = table.len() / RECORD;
-    if k == 0 {
-        return 0;
-    }
-    record::u32_at(&table[RECORD * (k - 1)..RECORD * (k - 1) + RECORD], 0)
-}
 
 // The first k bytes are 0, the rest is kept.
 fn clear(taken: &mut [u8], k: usize)
@@ -52,7 +39,7 @@ pub fn decide(n: u8, table: &[u8], cells: &mut [u32], order: &[u32], taken: &mut
         Checked::Refused(r) => return Checked::Refused(r),
     }
     let k = table.len() / RECORD;
-    let top = highest_of(table) as usize;
+    let top = table::highest_of(table) as usize;
     if cells.len() < top {
         return Checked::Refused(Refusal::Lent);
     }

@@ -16,12 +16,12 @@ ghost use Rattle.decide.specs.Range.{startOf};
 ghost use Rattle.decide.specs.Cells.{stopAt, Walked};
 use crate::direct::direct_commit;
 use crate::direct::direct_skip;
-use crate::highest_of;
 use crate::history::Walk;
 use crate::history::certified_in;
 use crate::history::walk_to;
 use crate::range::begin;
 use record::RECORD;
+use table::highest_of;
 
 // A round's cell, and how far the history of an anchor is marked then.
 pub(crate) struct Round {

@@ -1,5 +1,5 @@
 -- An export says what its call says. The numbers of `record_box_check`, `record_box_lookup_answer` and `record_box_settle` fix the answer of the call, so nothing is lost
--- in them; place and length of `record_box_lookup` are those of the part that `table::lookup` hands back.
+-- in them; place and length of `record_box_lookup` are those of the part that `lookup::lookup` hands back.
 -- Assumes nothing.
 use mathlib.Core.Path.{_≡_, refl, sym, ap}
 use mathlib.Core.List.{List}
@@ -19,7 +19,7 @@ use Rattle.rules.specs.Record.{first}
 use Rattle.rules.specs.Refusals.{numberOf}
 use Rattle.rules.specs.Lookup.{lookupBegin, lookupLength}
 use Rattle.rules.proofs.Refusals.{refusal-unique}
-use Rattle.table.specs.Part.{PartOf}
+use Rattle.lookup.specs.Part.{PartOf}
 use Rattle.exports.specs.declared.Answer.{Answer}
 use Rattle.exports.specs.declared.Part.{Part}
 use Rattle.exports.specs.declared.SettledNumbers.{SettledNumbers}
@@ -64,6 +64,6 @@ settled-fixed (outcome.Settled c) (outcome.Refused s) e = absurd (numbered-above
 settled-fixed (outcome.Refused r) (outcome.Settled d) e = absurd (numbered-above r (ap (λ (a : SettledNumbers). a .number) e))
 settled-fixed (outcome.Refused r) (outcome.Refused s) e = ap outcome.Refused (refusal-unique r s (ap (λ (a : SettledNumbers). a .number) e) (ap (λ (a : SettledNumbers). a .position) e))
 
--- r meets the promise of `table::lookup`, and p that of the export
+-- r meets the promise of `lookup::lookup`, and p that of the export
 pub lookup-same : (n : ℕ) (t r : RefT (List ℕ)) (x : Name) (p : Part) → PartOf t r (lookupBegin first n (now t) x) (lookupLength first n (now t) x) → p ≡ partAs first n (now t) x → PartOf t r (p .begin) (p .length)
 lookup-same n t r x p h e = rw e h

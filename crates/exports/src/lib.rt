@@ -4,7 +4,7 @@ ghost use mathlib.Core.Path.{_≡_};
 ghost use Rattle.rules.specs.Record.{first};
 ghost use Rattle.rules.specs.Check.{check as checked};
 ghost use Rattle.rules.specs.Lookup.{lookupAnswer};
-ghost use Rattle.table.specs.Part.{named};
+ghost use Rattle.table.specs.Named.{named};
 ghost use Rattle.rules.specs.Settlement.{lent};
 ghost use Rattle.exports.specs.Answers.{refusalAs, checkedAs, lookupAs, partAs, settledAs, SettlesAs};
 use record::RECORD;
@@ -110,8 +110,8 @@ pub extern "C" fn record_box_check(n: u8, table: &[u8]) -> Answer
     checked_as(table::check(n, table))
 }
 
-// `table::lookup`. An exported function cannot return a reference, so it gives where in the lent table the part that
-// `table::lookup` hands back begins, and how long it is: the record's 138 bytes, or the first zero bytes on any refusal.
+// `lookup::lookup`. An exported function cannot return a reference, so it gives where in the lent table the part that
+// `lookup::lookup` hands back begins, and how long it is: the record's 138 bytes, or the first zero bytes on any refusal.
 #[no_mangle]
 pub extern "C" fn record_box_lookup(n: u8, table: &[u8], round: u32, author: u8, mark: u32) -> Part
     ensures { λ r. ⌜ r ≡ partAs first n (now (table .entry)) (named round author mark) ⌝ }
@@ -148,7 +148,7 @@ pub extern "C" fn record_box_lookup(n: u8, table: &[u8], round: u32, author: u8,
     }
 }
 
-// `table::lookup_answer`. Number 0: the name is found.
+// `lookup::lookup_answer`. Number 0: the name is found.
 #[no_mangle]
 pub extern "C" fn record_box_lookup_answer(
     n: u8,
@@ -159,7 +159,7 @@ pub extern "C" fn record_box_lookup_answer(
 ) -> Answer
     ensures { λ r. ⌜ r ≡ lookupAs (lookupAnswer first n (now (table .entry)) (named round author mark)) ⌝ }
 {
-    lookup_as(table::lookup_answer(n, table, round, author, mark))
+    lookup_as(lookup::lookup_answer(n, table, round, author, mark))
 }
 
 // `settlement::settle`. Number 0: the table is settled. The three buffers hold what that call leaves in them.

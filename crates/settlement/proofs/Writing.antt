@@ -23,7 +23,7 @@ use Rattle.rules.specs.History.{history}
 use Rattle.rules.proofs.Records.{vertices-length}
 use Rattle.rules.proofs.Accepted.{Accepted, earlier}
 use Rattle.table.specs.Search.{findBelow}
-use Rattle.table.specs.Part.{named}
+use Rattle.table.specs.Named.{named}
 use Rattle.table.proofs.Earlier.{entry-named}
 use Rattle.decide.specs.Sweep.{markedFrom}
 use Rattle.settlement.specs.Write.{placesOver, written, due, moreAt, byteOf, dueFrom, Told, MarkedOne, MarkedMore, MarkedDown, fresh, Led}

@@ -22,7 +22,7 @@ use Rattle.rules.proofs.Records.{vertices-at, vertices-length, find-first}
 use Rattle.rules.proofs.Accepted.{rising-to}
 use Rattle.table.specs.Search.{nameAt}
 use Rattle.table.specs.Ready.{Ready}
-use Rattle.table.specs.Part.{named}
+use Rattle.table.specs.Named.{named}
 
 -- The names of the first p records rise.
 abbrev pub Rise : List ℕ → ℕ → Type 0

@@ -4,5 +4,6 @@ pub mod Entries
 pub mod Earlier
 pub mod Records
 pub mod Calls
-pub mod Lookups
+pub mod Finds
 pub mod Unique
+pub mod Highest

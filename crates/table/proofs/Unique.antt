@@ -1,10 +1,9 @@
--- Each public call has one result: any two results that meet its promise are equal. Of the lookup's references the block, the place in it and the bytes are equal.
+-- Each public call has one result: any two results that meet its promise are equal.
 -- `Post` is a call's promise as it stands in its contract, so a weaker one would not pass here. No call changes what it is lent.
 -- Assumes nothing.
 use mathlib.Core.Path.{_≡_, sym, _∙_}
 use mathlib.Core.List.{List}
 use Prim.Native.Nat.{ℕ}
-use denote.Ref.{RefT, ptr, now}
 use Rattle.rules.proofs.Only.{Only}
 use Rattle.table.proofs.place.Kinds as place-kinds
 use Rattle.table.proofs.place.Reads as place
@@ -12,10 +11,8 @@ use Rattle.table.proofs.find.Kinds as find-kinds
 use Rattle.table.proofs.find.Reads as find
 use Rattle.table.proofs.check.Kinds as check-kinds
 use Rattle.table.proofs.check.Reads as check
-use Rattle.table.proofs.lookup.Kinds as lookup-kinds
-use Rattle.table.proofs.lookup.Reads as lookup
-use Rattle.table.proofs.lookup_answer.Kinds as lookup-answer-kinds
-use Rattle.table.proofs.lookup_answer.Reads as lookup-answer
+use Rattle.table.proofs.highest_of.Kinds as highest-of-kinds
+use Rattle.table.proofs.highest_of.Reads as highest-of
 
 pub place-unique : Only 1 place-kinds.ps place-kinds.r (λ κs x e y f. x ≡ y) place.Post
 place-unique κs a x y e f p q = p ∙ sym q
@@ -26,14 +23,5 @@ find-unique κs a x y e f p q = p ∙ sym q
 pub check-unique : Only 1 check-kinds.ps check-kinds.r (λ κs x e y f. x ≡ y) check.Post
 check-unique κs a x y e f p q = p ∙ sym q
 
-pub lookup-answer-unique : Only 1 lookup-answer-kinds.ps lookup-answer-kinds.r (λ κs x e y f. x ≡ y) lookup-answer.Post
-lookup-answer-unique κs a x y e f p q = p ∙ sym q
-
--- the same place in memory, and the same bytes
-pub record SamePart (x y : RefT (List ℕ)) : Type 0 where
-  pub block : ptr x .0 ≡ ptr y .0
-  pub place : ptr x .1 ≡ ptr y .1
-  pub bytes : now x ≡ now y
-
-pub lookup-unique : Only 1 lookup-kinds.ps lookup-kinds.r (λ κs x e y f. SamePart x y) lookup.Post
-lookup-unique κs a x y e f p q = record { block = p .block ∙ sym (q .block); place = p .place ∙ sym (q .place); bytes = p .bytes ∙ sym (q .bytes) }
+pub highest-of-unique : Only 1 highest-of-kinds.ps highest-of-kinds.r (λ κs x e y f. x ≡ y) highest-of.Post
+highest-of-unique κs a x y e f p q = p ∙ sym q

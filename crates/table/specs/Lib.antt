@@ -1,3 +1,3 @@
 pub mod Search
-pub mod Part
+pub mod Named
 pub mod Ready

@@ -1,4 +1,4 @@
-// A table of records: the check, the search by name, and the lookup.
+// A table of records: the check, the search by name, and the highest round.
 ghost use mathlib.Core.Path.{_≡_};
 ghost use mathlib.Core.Bool.{true, false, not, cond};
 ghost use Prim.Native.Nat.{ℕ, _+_, _-_, _*_, _/_, _<_, _≤_, min};
@@ -10,15 +10,13 @@ ghost use Rattle.rules.specs.Authors.{isCount, quorum};
 ghost use Rattle.rules.specs.Record.{first, records, vertices, at, sameName};
 ghost use Rattle.rules.specs.Record.{below as isBelow};
 ghost use Rattle.rules.specs.Refusals.{eachTo};
+ghost use Rattle.rules.specs.Decide.{highest};
 ghost use Rattle.rules.specs.Check.{fieldsWrong, notAbove, entriesWrong, notEarlier, checkRecord};
 ghost use Rattle.rules.specs.Check.{check as checked};
-ghost use Rattle.rules.specs.Lookup.{lookupAnswer, lookupBegin, lookupLength};
 ghost use Rattle.table.specs.Search.{nameAt, placeOf, findBelow};
 ghost use Rattle.table.specs.Ready.{Ready};
-ghost use Rattle.table.specs.Part.{PartOf, named};
 use record::RECORD;
 use rules::Checked;
-use rules::LookupAnswer;
 use rules::Name;
 use rules::Refusal;
 use rules::Vertex;
@@ -312,52 +310,13 @@ pub fn check(n: u8, table: &[u8]) -> Checked
     Checked::Refused(Refusal::Authors)
 }
 
-// The caller's own bytes of the record of that name, or the first zero bytes of the table.
-pub fn lookup<'a>(n: u8, table: &'a [u8], round: u32, author: u8, mark: u32) -> &'a [u8]
-    ensures { λ r. ⌜ PartOf (table .entry) r (lookupBegin first n (now (table .entry)) (named round author mark)) (lookupLength first n (now (table .entry)) (named round author mark)) ⌝ }
+// The round of the last record; 0 for an empty table.
+pub fn highest_of(table: &[u8]) -> u32
+    ensures { λ r. ⌜ r ≡ highest (vertices first (now (table .entry))) ⌝ }
 {
     let k = table.len() / RECORD;
-    let c = check(n, table);
-    match c {
-        Checked::Passed => {}
-        Checked::Refused(_) => return &table[0..0],
+    if k == 0 {
+        return 0;
     }
-    let p = find(
-        table,
-        k,
-        Name {
-            round,
-            author,
-            mark,
-        },
-    );
-    if p < k {
-        return &table[RECORD * p..RECORD * p + RECORD];
-    }
-    &table[0..0]
-}
-
-// Whether there is such a record, and if not, why.
-pub fn lookup_answer(n: u8, table: &[u8], round: u32, author: u8, mark: u32) -> LookupAnswer
-    ensures { λ r. ⌜ r ≡ lookupAnswer first n (now (table .entry)) (named round author mark) ⌝ }
-{
-    let k = table.len() / RECORD;
-    let c = check(n, table);
-    match c {
-        Checked::Passed => {}
-        Checked::Refused(r) => return LookupAnswer::Refused(r),
-    }
-    let p = find(
-        table,
-        k,
-        Name {
-            round,
-            author,
-            mark,
-        },
-    );
-    if p < k {
-        return LookupAnswer::Found;
-    }
-    LookupAnswer::Refused(Refusal::Unnamed)
+    record::u32_at(&table[RECORD * (k - 1)..RECORD * (k - 1) + RECORD], 0)
 }

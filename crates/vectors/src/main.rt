@@ -95,7 +95,7 @@ fn say_check(n: u8, table: &[u8]) {
 }
 
 fn say_found(n: u8, table: &[u8], x: Name) {
-    let a = table::lookup_answer(n, table, x.round, x.author, x.mark);
+    let a = lookup::lookup_answer(n, table, x.round, x.author, x.mark);
     match a {
         LookupAnswer::Found => say(b"found\n"),
         LookupAnswer::Refused(r) => say_refused(r),
@@ -121,7 +121,7 @@ fn say_lookup(input: &[u8]) {
     let n = record::byte_at(input, 10);
     let table = rest(input, 11);
     say_found(n, table, x);
-    say_part(table::lookup(n, table, x.round, x.author, x.mark));
+    say_part(lookup::lookup(n, table, x.round, x.author, x.mark));
 }
 
 // A number and how often it stands there in a row; nothing if it doesn't.

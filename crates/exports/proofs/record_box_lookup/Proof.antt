@@ -5,8 +5,8 @@ use native.Mathlib.Omega.{arith}
 use Rattle.rules.specs.declared.Checked.the-variants.{Passed, Refused}
 use Rattle.rules.specs.Record.{first}
 use Rattle.rules.specs.Check.{check}
-use Rattle.table.specs.Part.{named}
-use Rattle.table.proofs.Lookups.{begin-refused, length-refused, begin-found, length-found, begin-none, length-none}
+use Rattle.table.specs.Named.{named}
+use Rattle.lookup.proofs.Lookups.{begin-refused, length-refused, begin-found, length-found, begin-none, length-none}
 use borrow.Author.Needs.{needs}
 use Rattle.exports.proofs.record_box_lookup.Statement.{statement}
 use Rattle.exports.proofs.record_box_lookup.Tie as tie

@@ -1,4 +1,4 @@
--- `exports::record_box_lookup_answer` meets its contract: the answer of `table::lookup_answer`, as numbers.
+-- `exports::record_box_lookup_answer` meets its contract: the answer of `lookup::lookup_answer`, as numbers.
 -- Assumes nothing.
 use mathlib.Core.Path.{_∙_, ap}
 use Rattle.exports.specs.Answers.{lookupAs}

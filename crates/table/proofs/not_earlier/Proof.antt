@@ -10,7 +10,7 @@ use Rattle.folds.specs.Folds.{anyTo}
 use Rattle.folds.proofs.Laws.{any-start, any-next}
 use Rattle.rules.specs.Record.{entry, sameName, below}
 use Rattle.table.specs.Search.{nameAt}
-use Rattle.table.specs.Part.{named}
+use Rattle.table.specs.Named.{named}
 use Rattle.table.proofs.Search.{halved}
 use Rattle.table.proofs.Earlier.{rise, Searched, searched-start, searched-turn, missing, missing-empty, entry-named, none-missing, some-missing, not-missing}
 use native.Mathlib.Omega.{arith}

@@ -6,7 +6,7 @@ use mathlib.Core.Path.{_≡_}
 use mathlib.Core.List.{List}
 use lib.ListN.{getD}
 use Rattle.rules.specs.Record.{first, vertices, entry, vertexOf}
-use Rattle.table.specs.Part.{named}
+use Rattle.table.specs.Named.{named}
 use Rattle.decide.specs.Certify.{backs}
 use Rattle.decide.proofs.Ranges.{author-limit}
 use Rattle.decide.proofs.Certified.{Filled, filled-start, filled-next, filled-end}

@@ -1,15 +1,15 @@
--- `table::lookup_answer` meets its contract: the check's refusal, or whether the name is found.
+-- `lookup::lookup_answer` meets its contract: the check's refusal, or whether the name is found.
 -- Assumes nothing.
 use mathlib.Core.Path.{_≡_, sym, _∙_}
 use native.Mathlib.Omega.{arith}
 use Rattle.rules.specs.declared.Checked.the-variants.{Passed}
 use Rattle.rules.specs.Record.{first}
 use Rattle.rules.specs.Check.{check}
-use Rattle.table.specs.Part.{named}
-use Rattle.table.proofs.Lookups.{answer-refused, answer-found, answer-none}
+use Rattle.table.specs.Named.{named}
+use Rattle.lookup.proofs.Lookups.{answer-refused, answer-found, answer-none}
 use borrow.Author.Needs.{needs}
-use Rattle.table.proofs.lookup_answer.Statement.{statement}
-use Rattle.table.proofs.lookup_answer.Tie as tie
+use Rattle.lookup.proofs.lookup_answer.Statement.{statement}
+use Rattle.lookup.proofs.lookup_answer.Tie as tie
 
 check-requires : tie.Need-check-requires
 check-requires c κs = search needs

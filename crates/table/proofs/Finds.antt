@@ -1,6 +1,6 @@
--- The lookup: in a table that passes the check the search by halves finds what `find` of the rules finds, and what the lookup answers then.
+-- In a table that passes the check the search by halves finds what `find` of the rules finds.
 -- Assumes nothing.
-use Prim.Native.Nat.{ℕ, _*_, _/_, _≤_, _<_, min}
+use Prim.Native.Nat.{ℕ, _≤_, _<_}
 use mathlib.Core.Path.{_≡_, refl, _∙_, subst}
 use mathlib.Core.Bool.{true, false, not}
 use mathlib.Core.List.{List}
@@ -8,21 +8,14 @@ use native.Mathlib.Omega.{arith}
 use native.Mathlib.Nat.{le-refl}
 use lib.Dec.{ltb}
 use lib.ListN.{length}
-use borrow.Author.Tests.{ltb-true, ltb-false, lt-leb, le-leb}
+use borrow.Author.Tests.{ltb-true, ltb-false}
 use Rattle.folds.proofs.Tests.{by-test, not-both, failed, not-true, not-false}
 use Rattle.folds.proofs.Laws.{First, first-unique, first-is}
 use Rattle.rules.specs.declared.Name.{Name}
-use Rattle.rules.specs.declared.Refusal.{Refusal}
-use Rattle.rules.specs.declared.Refusal.the-variants.{Unnamed}
-use Rattle.rules.specs.declared.Checked.the-variants.{Passed, Refused}
-use Rattle.rules.specs.declared.LookupAnswer.the-variants as answer
 use Rattle.rules.specs.Record.{first, records, vertices, at, nameOf, sameName, below, find}
-use Rattle.rules.specs.Refusals.{_when_, _then_}
-use Rattle.rules.specs.Check.{check}
-use Rattle.rules.specs.Lookup.{lookupCheck, lookupAnswer, lookupBegin, lookupLength}
 use Rattle.rules.proofs.Names.{Below, below-is, is-below, below-trans}
 use Rattle.rules.proofs.Records.{vertices-at, vertices-length, find-first}
-use Rattle.rules.proofs.Accepted.{Accepted, accepted, rising}
+use Rattle.rules.proofs.Accepted.{Accepted, rising}
 use Rattle.table.specs.Search.{nameAt, placeOf, findBelow}
 use Rattle.table.proofs.Search.{Falls, halves-first, found-here, found-other, found-past}
 use Rattle.table.proofs.Earlier.{Rise, not-lower, not-higher, higher}
@@ -93,51 +86,3 @@ rise-all n t A i j l h =
 
 pub find-below : (n : ℕ) (t : List ℕ) (x : Name) → Accepted n (vertices first t) → findBelow t (records first t) x ≡ find (vertices first t) x
 find-below n t x A = find-rising t x (rise-all n t A)
-
--- ---- what the lookup answers
-
-module _ (n : ℕ) (t : List ℕ) (x : Name) where
-  -- the table is refused
-  module _ (r : Refusal) (e : check first n t ≡ Refused r) where
-    pub begin-refused : lookupBegin first n t x ≡ 0
-    unfolding lookupBegin lookupCheck _then_
-    begin-refused = rw e
-
-    pub length-refused : lookupLength first n t x ≡ 0
-    unfolding lookupLength lookupCheck _then_
-    length-refused = rw e
-
-    pub answer-refused : lookupAnswer first n t x ≡ answer.Refused r
-    unfolding lookupAnswer lookupCheck _then_
-    answer-refused = rw e
-
-  -- it passes, and the search finds p
-  module _ (e : check first n t ≡ Passed) (p : ℕ) (f : p ≡ findBelow t (min (records first t) (records first t)) x) where
-    is-found : p ≡ find (vertices first t) x
-    is-found = let q : min (records first t) (records first t) ≡ records first t = omega arith in f ∙ rw q (find-below n t x (accepted first n t e))
-
-    module _ (l : p < records first t) where
-      pub begin-found : lookupBegin first n t x ≡ 138 * p
-      unfolding lookupBegin lookupCheck _then_ _when_
-      begin-found = rw (e, ← is-found, lt-leb (length t / 138) p l)
-
-      pub length-found : lookupLength first n t x ≡ 138
-      unfolding lookupLength lookupCheck _then_ _when_
-      length-found = rw (e, ← is-found, lt-leb (length t / 138) p l)
-
-      pub answer-found : lookupAnswer first n t x ≡ answer.Found
-      unfolding lookupAnswer lookupCheck _then_ _when_
-      answer-found = rw (e, ← is-found, lt-leb (length t / 138) p l)
-
-    module _ (l : records first t ≤ p) where
-      pub begin-none : lookupBegin first n t x ≡ 0
-      unfolding lookupBegin lookupCheck _then_ _when_
-      begin-none = rw (e, ← is-found, le-leb (length t / 138) p l)
-
-      pub length-none : lookupLength first n t x ≡ 0
-      unfolding lookupLength lookupCheck _then_ _when_
-      length-none = rw (e, ← is-found, le-leb (length t / 138) p l)
-
-      pub answer-none : lookupAnswer first n t x ≡ answer.Refused Unnamed
-      unfolding lookupAnswer lookupCheck _then_ _when_
-      answer-none = rw (e, ← is-found, le-leb (length t / 138) p l)

@@ -1,4 +1,4 @@
--- `table::lookup` meets its contract: the part that is returned is the record that is found, or the first zero bytes.
+-- `lookup::lookup` meets its contract: the part that is returned is the record that is found, or the first zero bytes.
 -- Assumes nothing.
 use Prim.Native.Nat.{_*_}
 use mathlib.Core.Path.{_≡_, refl, sym, _∙_}
@@ -7,12 +7,12 @@ use lib.ListN.{drop}
 use Rattle.rules.specs.declared.Checked.the-variants.{Passed, Refused}
 use Rattle.rules.specs.Record.{first}
 use Rattle.rules.specs.Check.{check}
-use Rattle.table.specs.Part.{named}
+use Rattle.table.specs.Named.{named}
 use Rattle.table.proofs.Names.{own-bytes}
-use Rattle.table.proofs.Lookups.{begin-refused, length-refused, begin-found, length-found, begin-none, length-none}
+use Rattle.lookup.proofs.Lookups.{begin-refused, length-refused, begin-found, length-found, begin-none, length-none}
 use borrow.Author.Needs.{needs}
-use Rattle.table.proofs.lookup.Statement.{statement}
-use Rattle.table.proofs.lookup.Tie as tie
+use Rattle.lookup.proofs.lookup.Statement.{statement}
+use Rattle.lookup.proofs.lookup.Tie as tie
 
 check-requires : tie.Need-check-requires
 check-requires c κs = search needs

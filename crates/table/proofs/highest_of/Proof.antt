@@ -1,12 +1,12 @@
--- `decide::highest_of` meets its contract: the last record's round. Assumes nothing.
+-- `table::highest_of` meets its contract: the last record's round. Assumes nothing.
 use Prim.Native.Nat.{_/_}
 use mathlib.Core.Path.{refl, sym, _∙_}
 use native.Mathlib.Omega.{arith}
 use lib.ListN.{length}
-use Rattle.decide.proofs.InCells.{highest-empty, highest-last}
+use Rattle.table.proofs.Highest.{highest-empty, highest-last}
 use borrow.Author.Needs.{needs}
-use Rattle.decide.proofs.highest_of.Statement.{statement}
-use Rattle.decide.proofs.highest_of.Tie as tie
+use Rattle.table.proofs.highest_of.Statement.{statement}
+use Rattle.table.proofs.highest_of.Tie as tie
 
 returns : tie.Need-returns
 returns c = sym (highest-empty (c .before .before .args .table .now) (omega arith))

@@ -11,7 +11,7 @@ use Rattle.rules.specs.declared.Outcome.the-variants.{Settled}
 use Rattle.rules.specs.Record.{first, vertices, at, nameOf}
 use Rattle.rules.specs.Decision.{Decision, undecided, skipped, committed, Decided, tell}
 use Rattle.rules.specs.Decide.{document01}
-use Rattle.rules.specs.Settlement.{Buffers, Settles, settle}
+use Rattle.rules.specs.Settlement.{Buffers, settle}
 use Rattle.agreement.specs.Agreement.{Premises, Begins}
 
 -- What a cell says.

@@ -14,7 +14,7 @@ use lib.Seq.{getD-set-same, getD-set-other, ext-getD}
 use borrow.Author.Tests.{eqb-true, eqb-false, leb-true, ltb-true, ltb-false, eq-eqb, ne-eqb, le-leb, lt-leb, lt-ltb, le-ltb}
 use Rattle.folds.specs.Folds.{_and_, countTo, firstTo, tabulate}
 use Rattle.folds.proofs.Tests.{by-test, not-both, failed, and-left, and-right, and-true, not-true, is-not, both-ways}
-use Rattle.folds.proofs.Laws.{First, first-is, first-by, count-witness, count-and, count-mono, count-cut, count-same, first-same}
+use Rattle.folds.proofs.Laws.{First, first-is, first-by, count-witness, count-and, count-cut, count-same, first-same}
 use Rattle.folds.proofs.Lists.{length-tabulate, getD-tabulate}
 use Rattle.rules.specs.declared.Name.{Name}
 use Rattle.rules.specs.declared.Vertex.{Vertex}

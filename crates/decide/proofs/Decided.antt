@@ -13,7 +13,6 @@ use Rattle.folds.proofs.Tests.{or-left, or-right, or-false}
 use Rattle.rules.specs.declared.Vertex.{Vertex}
 use Rattle.rules.specs.declared.Refusal.{Refusal}
 use Rattle.rules.specs.declared.Refusal.the-variants.{Lent}
-use Rattle.rules.specs.declared.Checked.{Checked}
 use Rattle.rules.specs.declared.Checked.the-variants.{Passed, Refused}
 use Rattle.rules.specs.Record.{first, records, vertices}
 use Rattle.rules.specs.Refusals.{_when_, _then_}

@@ -1,6 +1,6 @@
 -- The decisions as they stand in cells: where the indirect search stops, who is chosen, and what a round's cell holds.
 -- Assumes nothing.
-use Prim.Native.Nat.{ℕ, suc, pred, _+_, _-_, _*_, _≤_, _<_, min}
+use Prim.Native.Nat.{ℕ, suc, pred, _+_, _-_, _≤_, _<_, min}
 use mathlib.Core.Path.{_≡_, refl, sym, ap, _∙_, subst}
 use mathlib.Core.Logic.{_⊎_, ⊎-elim, _≢_}
 use mathlib.Core.Bool.{Bool, true, false, not, cond}
@@ -9,7 +9,7 @@ use native.Mathlib.Omega.{arith}
 use native.Mathlib.Nat.{le-refl, mod-lt}
 use native.Mathlib.Numerals.{add-one}
 use lib.Dec.{leb, ltb, eqb}
-use lib.ListN.{length, getD, set, take, drop, length-set, length-append, length-drop, length-map, List·getD-append, List·getD-map, List·getD-eq-default}
+use lib.ListN.{length, getD, set, drop, length-set, length-append, length-drop, length-map, List·getD-append, List·getD-map}
 use lib.Seq.{drop-drop, getD-drop, getD-set-same, getD-set-other, getD-append-add, ext-getD}
 use borrow.Author.Tests.{eqb-true, eqb-false, ne-eqb, leb-true, leb-false, le-leb, ltb-true, ltb-false, lt-ltb, le-ltb}
 use Rattle.folds.specs.Folds.{_and_, _or_, bit, anyTo, firstTo}
@@ -17,7 +17,7 @@ use Rattle.folds.proofs.Tests.{by-test, not-both, failed, and-left, and-right, 
 use Rattle.folds.proofs.Laws.{First, first-is, first-by, any-witness, any-intro, first-same, first-none}
 use Rattle.rules.specs.declared.Vertex.{Vertex}
 use Rattle.rules.specs.declared.Checked.the-variants.{Passed}
-use Rattle.rules.specs.Record.{number, first, decode, records, vertices, noVertex, at, nameOf}
+use Rattle.rules.specs.Record.{first, records, vertices, at, nameOf}
 use Rattle.rules.specs.Check.{check}
 use Rattle.rules.specs.Support.{references, certifies, directCommit, directSkip}
 use Rattle.rules.specs.History.{history}
@@ -25,7 +25,7 @@ use Rattle.rules.specs.Authors.{leader, oneLeader}
 use Rattle.rules.specs.Decision.{Decision, undecided, skipped, committed, cell}
 use Rattle.rules.specs.Decide.{document01, highest, inSlot, qualifies, lowest, choose, certifiedIn, anchor, throughAnchor, indirect, decide, decisions, decisionAt}
 use Rattle.rules.specs.Settlement.{writtenOver}
-use Rattle.rules.proofs.Records.{vertices-length, vertices-at}
+use Rattle.rules.proofs.Records.{vertices-length}
 use Rattle.rules.proofs.Accepted.{Accepted, accepted}
 use Rattle.rules.proofs.Support.{references-is, certifies-is}
 use Rattle.rules.proofs.Decisions.{committed-decided}

@@ -1,7 +1,7 @@
 -- What one vertex certifies of a slot, as it is worked out: the mark that each of its references backs, then the mark that enough of them back.
 -- Assumes nothing.
 use Prim.Native.Nat.{ℕ}
-use mathlib.Core.Bool.{Bool, not, cond}
+use mathlib.Core.Bool.{not, cond}
 use mathlib.Core.List.{List}
 use lib.Dec.{leb, ltb, eqb}
 use lib.ListN.{length, getD}

@@ -1,9 +1,9 @@
 -- The taken bytes as work space, while the rounds are decided: the upper half of a byte's values says that the vertex is in the history of
 -- the anchor in hand, and what is below 128 is a tag of the round that is being decided. Neither is left: the bytes are written anew.
 -- Assumes nothing.
-use Prim.Native.Nat.{ℕ, _+_, _-_, _/_, _%_, _≤_, _<_}
+use Prim.Native.Nat.{ℕ, _+_, _-_, _/_, _%_, _<_}
 use mathlib.Core.Path.{_≡_}
-use mathlib.Core.Bool.{Bool, cond}
+use mathlib.Core.Bool.{cond}
 use mathlib.Core.List.{List, _++_}
 use lib.Dec.{ltb, eqb}
 use lib.ListN.{length, getD, drop}

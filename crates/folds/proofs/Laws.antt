@@ -2,7 +2,7 @@
 -- The steps of a loop are stated at `i + 1`, as its code counts.
 -- Assumes nothing.
 use Prim.Native.Nat.{ℕ, zero, suc, _+_, _-_, _≤_, _<_, zero-le}
-use mathlib.Core.Path.{_≡_, refl, sym, ap, _∙_, subst}
+use mathlib.Core.Path.{_≡_, refl, sym, _∙_, subst}
 use mathlib.Core.Logic.{_⊎_, inl, inr, ⊎-elim}
 use mathlib.Core.Bool.{Bool, true, false, not, cond, false≢true}
 use native.Mathlib.Nat.{le-refl, le-step, not-suc-le-zero, le-of-suc-le-suc, eq-or-lt-of-le, lt-irrefl}
@@ -11,7 +11,7 @@ use native.Mathlib.Numerals.{add-one}
 use lib.Dec.{leb, ltb}
 use borrow.Author.Tests.{ltb-true, ltb-false, lt-ltb, le-ltb, leb-true, le-leb}
 use Rattle.folds.specs.Folds.{_and_, _or_, bit, sumTo, countTo, anyTo, firstTo}
-use Rattle.folds.proofs.Tests.{by-test, not-both, failed, passed, or-cases, or-left, or-right, or-false, and-left, and-right, and-true}
+use Rattle.folds.proofs.Tests.{by-test, not-both, failed, or-cases, or-left, or-right, or-false, and-left, and-right, and-true}
 
 -- ---- anyTo
 

@@ -1,8 +1,8 @@
 -- Quorums: two sets of 2f + 1 out of 3f + 1 authors share one who is none of the f faulty ones.
 -- Said of any count n with n ≡ 3f + 1, and of some author, not only of numbers of authors.
 -- Assumes nothing.
-use Prim.Native.Nat.{ℕ, zero, suc, _+_, _*_, _≤_, _<_}
-use mathlib.Core.Path.{_≡_, refl}
+use Prim.Native.Nat.{ℕ, _+_, _*_, _≤_, _<_}
+use mathlib.Core.Path.{_≡_}
 use mathlib.Core.Bool.{Bool, true, false, not}
 use native.Mathlib.Omega.{arith}
 use Rattle.folds.specs.Folds.{_and_, countTo}

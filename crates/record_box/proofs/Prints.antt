@@ -1,8 +1,8 @@
 -- What the program prints: the lines of what it answers, one after the other, are the output of document 01's program, for every input.
 -- Assumes nothing.
-use Prim.Native.Nat.{ℕ, _≤_, _<_}
-use mathlib.Core.Path.{_≡_, refl, sym, ap, _∙_}
-use mathlib.Core.Bool.{Bool, true, false}
+use Prim.Native.Nat.{ℕ, _≤_}
+use mathlib.Core.Path.{_≡_, refl, ap, _∙_}
+use mathlib.Core.Bool.{true, false}
 use mathlib.Core.List.{List}
 use native.Mathlib.Omega.{arith}
 use lib.Dec.{ltb}
@@ -18,7 +18,7 @@ use Rattle.rules.specs.Check.{check}
 use Rattle.rules.specs.Decide.{document01}
 use Rattle.rules.specs.Settlement.{Buffers, tooShort}
 use Rattle.rules.specs.Program.{lines, holds, printed}
-use Rattle.rules.proofs.Refusals.{when-no, then-passed}
+use Rattle.rules.proofs.Refusals.{when-no}
 use Rattle.rules.proofs.Accepted.{accepted}
 use Rattle.report.specs.Output.{output}
 use Rattle.report.proofs.Printed.{output-is}

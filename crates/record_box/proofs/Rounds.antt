@@ -1,9 +1,9 @@
 -- A table that passes has no more rounds than records, so the program's memory is never too short for what it holds.
 -- Assumes nothing.
-use Prim.Native.Nat.{ℕ, zero, suc, pred, _+_, _*_, _/_, _≤_, _<_}
-use mathlib.Core.Path.{_≡_, refl, sym, ap, _∙_}
-use mathlib.Core.Bool.{Bool, true, false}
-use mathlib.Core.List.{List, [], _∷_}
+use Prim.Native.Nat.{ℕ, zero, suc, pred, _+_, _≤_, _<_}
+use mathlib.Core.Path.{_≡_, ap}
+use mathlib.Core.Bool.{true, false}
+use mathlib.Core.List.{List}
 use native.Mathlib.Omega.{arith}
 use native.Mathlib.Nat.{not-suc-le-zero}
 use lib.Dec.{ltb}
@@ -12,7 +12,6 @@ use borrow.Author.Tests.{eqb-false, ltb-true, ltb-false, le-ltb}
 use Rattle.folds.proofs.Tests.{by-test, not-true, or-false}
 use Rattle.folds.proofs.Laws.{count-witness}
 use Rattle.rules.specs.declared.Vertex.{Vertex}
-use Rattle.rules.specs.Authors.{quorum}
 use Rattle.rules.specs.Record.{first, records, vertices, noVertex, at, entryName, refers, find}
 use Rattle.rules.specs.Decide.{document01, highest}
 use Rattle.rules.specs.Settlement.{Buffers, tooShort}

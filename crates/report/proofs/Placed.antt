@@ -1,9 +1,9 @@
 -- Which line stands where, by the tests that the code makes.
 -- Assumes nothing.
 use Prim.Native.Nat.{ℕ, zero, suc, _+_, _-_, _*_, _≤_, _<_}
-use mathlib.Core.Path.{_≡_, refl, sym, ap, _∙_}
+use mathlib.Core.Path.{_≡_, refl, _∙_}
 use mathlib.Core.Logic.{_≢_}
-use mathlib.Core.List.{List, [], _∷_, _++_}
+use mathlib.Core.List.{List, []}
 use native.Mathlib.Omega.{arith}
 use lib.ListN.{length, getD, take, drop, List·getD-eq-default}
 use borrow.Author.Tests.{lt-ltb, le-ltb}
@@ -14,13 +14,13 @@ use Rattle.rules.specs.declared.Counts.{Counts}
 use Rattle.rules.specs.declared.Outcome.{Outcome}
 use Rattle.rules.specs.declared.Outcome.the-variants.{Settled, Refused}
 use Rattle.rules.specs.Record.{first, recordAt, decode, records, vertices, at, noVertex, nameOf}
-use Rattle.rules.specs.Program.{lineX, lineS, lineR, lineV}
+use Rattle.rules.specs.Program.{lineX, lineS, lineR}
 use Rattle.rules.proofs.Records.{vertices-length, vertices-at}
 use Rattle.lines.specs.Fills.{Fills}
 use Rattle.lines.specs.Lines.{lineUndecided, lineSkipped, lineCommitted, lineNamed}
 use Rattle.lines.proofs.Lines.{undecided-line, skipped-line, committed-line, named-line}
 use Rattle.lines.proofs.Text.{fills-so}
-use Rattle.report.specs.Output.{decisionOf, laterLine, settledLine, outputLine, outputLines}
+use Rattle.report.specs.Output.{decisionOf, laterLine, settledLine, outputLine}
 
 -- ---- the name at a position
 

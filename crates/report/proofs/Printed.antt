@@ -1,6 +1,6 @@
 -- The lines that the calls give, one after the other, are what document 01's program prints.
 -- Assumes nothing.
-use Prim.Native.Nat.{ℕ, zero, suc, _+_, _-_, _≤_, _<_}
+use Prim.Native.Nat.{ℕ, zero, suc, _+_, _-_, _<_}
 use mathlib.Core.Path.{_≡_, refl, sym, ap, _∙_}
 use mathlib.Core.List.{List, [], _∷_, _++_, append-assoc, append-nil, map}
 use native.Mathlib.Omega.{arith}
@@ -15,8 +15,8 @@ use Rattle.rules.specs.Record.{first, vertices, at}
 use Rattle.rules.specs.Decision.{Decision, undecided, skipped, committed, cell}
 use Rattle.rules.specs.Decide.{document01, highest, decisions, decisionAt}
 use Rattle.rules.specs.Order.{writeFrom}
-use Rattle.rules.specs.Settlement.{Buffers, Settles, writtenOver, countsOf, settled, settleIf}
-use Rattle.rules.specs.Program.{lineX, lineS, lineR, lineV, linesR, linesV, lines}
+use Rattle.rules.specs.Settlement.{Buffers, writtenOver, countsOf, settled, settleIf}
+use Rattle.rules.specs.Program.{lineS, lineR, lineV, linesR, linesV, lines}
 use Rattle.rules.proofs.Decide.{decisions-length}
 use Rattle.report.specs.Output.{decisionOf, laterLine, settledLine, outputLine, outputLines, joined, output}
 

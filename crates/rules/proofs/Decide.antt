@@ -1,9 +1,9 @@
 -- How the decisions come about, as cases: who is chosen, where the anchor search stops, and why a slot is decided as it is.
 -- Said of any setting whose indirect search starts after the slot.
 -- Assumes nothing.
-use Prim.Native.Nat.{ℕ, zero, suc, pred, _+_, _-_, _≤_, _<_}
+use Prim.Native.Nat.{ℕ, zero, suc, _+_, _-_, _≤_, _<_}
 use mathlib.Core.Path.{_≡_, refl, sym, ap, _∙_, subst}
-use mathlib.Core.Logic.{_⊎_, inl, inr, ⊎-elim, _≢_}
+use mathlib.Core.Logic.{_⊎_, inl, inr}
 use mathlib.Core.Bool.{Bool, true, false, not, cond}
 use mathlib.Core.List.{List, [], _∷_}
 use native.Mathlib.Omega.{arith}
@@ -11,14 +11,13 @@ use native.Mathlib.Nat.{le-refl, not-le-of-lt, le-of-suc-le-suc, not-suc-le-zero
 use lib.Dec.{ltb, eqb}
 use lib.ListN.{length, getD, drop, List·getD-eq-default}
 use lib.Seq.{getD-drop, drop-drop}
-use borrow.Author.Tests.{eqb-true, eq-eqb, ltb-true, ltb-false, lt-ltb}
+use borrow.Author.Tests.{eqb-true, eq-eqb, ltb-true, ltb-false}
 use Rattle.folds.specs.Folds.{_and_, anyTo, firstTo}
-use Rattle.folds.proofs.Tests.{by-test, not-both, failed, and-left, and-right, and-true, is-not, not-true, compare}
-use Rattle.folds.proofs.Laws.{any-none, any-false, First, first-is, first-by, first-least}
-use Rattle.rules.specs.declared.Name.{Name}
+use Rattle.folds.proofs.Tests.{by-test, not-both, failed, and-left, and-right, and-true, is-not, compare}
+use Rattle.folds.proofs.Laws.{any-false, First, first-is, first-by}
 use Rattle.rules.specs.declared.Vertex.{Vertex}
 use Rattle.rules.specs.Authors.{Slots}
-use Rattle.rules.specs.Record.{at, nameOf}
+use Rattle.rules.specs.Record.{at}
 use Rattle.rules.specs.Decision.{Decision, undecided, skipped, committed}
 use Rattle.rules.specs.Support.{directCommit}
 use Rattle.rules.specs.History.{history}

@@ -2,24 +2,23 @@
 -- undecided round of a table that has records is 1 to the highest.
 -- Assumes nothing.
 use Prim.Native.Nat.{ℕ, zero, suc, pred, _+_, _-_, _≤_, _<_}
-use mathlib.Core.Path.{_≡_, refl, sym, ap, _∙_, subst}
-use mathlib.Core.Logic.{_⊎_, inl, inr, ⊎-elim, _≢_}
-use mathlib.Core.Bool.{Bool, true, false}
+use mathlib.Core.Path.{_≡_, refl, ap, _∙_}
+use mathlib.Core.Logic.{_⊎_, ⊎-elim}
+use mathlib.Core.Bool.{true, false}
 use mathlib.Core.List.{List, [], _∷_}
 use native.Mathlib.Omega.{arith}
 use native.Mathlib.Nat.{le-refl, eq-or-lt-of-le, le-of-suc-le-suc, not-suc-le-zero}
 use lib.Dec.{leb}
-use lib.ListN.{length, getD}
+use lib.ListN.{length}
 use borrow.Author.Tests.{leb-true, leb-false}
 use Rattle.folds.proofs.Tests.{by-test}
-use Rattle.folds.specs.Many.{Many}
 use Rattle.folds.proofs.Quorum.{some-of}
 use Rattle.rules.specs.declared.Vertex.{Vertex}
 use Rattle.rules.specs.Authors.{quorum, oneLeader}
-use Rattle.rules.specs.Record.{at, nameOf}
+use Rattle.rules.specs.Record.{at}
 use Rattle.rules.specs.Decision.{Decision, undecided, skipped, committed}
 use Rattle.rules.specs.Support.{certifies, directCommit, directSkip, blank}
-use Rattle.rules.specs.Decide.{Setting, document01, highest, inSlot, decisions, decisionAt}
+use Rattle.rules.specs.Decide.{document01, highest, decisions, decisionAt}
 use Rattle.rules.specs.Order.{firstUndecided}
 use Rattle.rules.proofs.Names.{below-round}
 use Rattle.rules.proofs.Accepted.{Accepted, rising, round-pos}

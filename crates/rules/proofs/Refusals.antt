@@ -1,10 +1,10 @@
 -- How refusals follow one another, and that a refusal is fixed by its number and position.
 -- Assumes nothing.
-use Prim.Native.Nat.{ℕ, zero, suc, _+_, _≤_, _<_}
+use Prim.Native.Nat.{ℕ, zero, suc, _+_, _<_}
 use mathlib.Core.Path.{_≡_, refl, sym, ap, ap₂, _∙_}
 use mathlib.Core.Bool.{Bool, true, false, false≢true, true≢false}
 use native.Mathlib.Nat.{le-refl, le-step, not-suc-le-zero, le-of-suc-le-suc, eq-or-lt-of-le}
-use mathlib.Core.Logic.{_⊎_, inl, inr, ⊎-elim}
+use mathlib.Core.Logic.{_⊎_, ⊎-elim}
 use native.Mathlib.Omega.{arith}
 use native.Mathlib.Numerals.{add-one}
 use Rattle.rules.specs.declared.Refusal.{Refusal}

@@ -17,7 +17,7 @@ use Rattle.folds.proofs.Quorum.{many-map, many-test, many-count}
 use Rattle.rules.specs.declared.Name.{Name}
 use Rattle.rules.specs.declared.Vertex.{Vertex}
 use Rattle.rules.specs.Authors.{quorum}
-use Rattle.rules.specs.Record.{at, entry, refers, entryName, nameOf, find, vertexOf}
+use Rattle.rules.specs.Record.{at, entry, refers, entryName, find, vertexOf}
 use Rattle.rules.specs.Support.{references, supports, blank, certifies, authorsWith, directCommit, directSkip}
 use Rattle.rules.proofs.Names.{name-path}
 use Rattle.rules.proofs.Accepted.{Accepted, earlier}

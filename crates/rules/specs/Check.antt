@@ -1,8 +1,8 @@
 -- Document 01, "Refusal numbers and their order": the rows 1 to 9, each with a test of its own, and their order.
 -- Assumes nothing.
-use Prim.Native.Nat.{ℕ, zero, suc, pred, _/_, _%_}
-use mathlib.Core.Bool.{Bool, true, false, not, cond}
-use mathlib.Core.List.{List, [], _∷_}
+use Prim.Native.Nat.{ℕ, zero, pred, _%_}
+use mathlib.Core.Bool.{Bool, not}
+use mathlib.Core.List.{List}
 use lib.Dec.{leb, ltb, eqb}
 use lib.ListN.{length}
 use Rattle.folds.specs.Folds.{_and_, _or_, countTo, anyTo}
@@ -11,7 +11,6 @@ use Rattle.rules.specs.declared.Vertex.{Vertex}
 use Rattle.rules.specs.declared.Refusal.{Refusal}
 use Rattle.rules.specs.declared.Refusal.the-variants.{Authors, Length, Records, Sum, Fields, Rising, Entries, Earlier, Round}
 use Rattle.rules.specs.declared.Checked.{Checked}
-use Rattle.rules.specs.declared.Checked.the-variants.{Passed, Refused}
 use Rattle.rules.specs.Authors.{isCount, quorum}
 use Rattle.rules.specs.Record.{Edition, recordAt, sumOf, records, vertices, at, nameOf, refers, entryName, below, find}
 use Rattle.rules.specs.Refusals.{_when_, _then_, eachTo}

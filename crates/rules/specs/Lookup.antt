@@ -1,6 +1,6 @@
 -- Document 01, "What the calls give": the lookup. It hands back the caller's own bytes for a name, or an empty part on any refusal; a second question gives the refusal.
 -- Assumes nothing.
-use Prim.Native.Nat.{ℕ, _+_, _*_}
+use Prim.Native.Nat.{ℕ, _*_}
 use mathlib.Core.List.{List}
 use lib.Dec.{leb}
 use Rattle.rules.specs.declared.Name.{Name}

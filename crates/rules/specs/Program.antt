@@ -13,7 +13,7 @@ use Rattle.rules.specs.declared.Checked.{Checked}
 use Rattle.rules.specs.declared.Checked.the-variants.{Passed, Refused}
 use Rattle.rules.specs.declared.Counts.{Counts}
 use Rattle.rules.specs.Refusals.{numberOf, positionOf, _when_, _then_}
-use Rattle.rules.specs.Record.{Edition, first, vertices, at}
+use Rattle.rules.specs.Record.{first, vertices, at}
 use Rattle.rules.specs.Check.{check}
 use Rattle.rules.specs.Decision.{Decision, undecided, skipped, committed}
 use Rattle.rules.specs.Decide.{Setting, document01, decisions}

@@ -1,8 +1,8 @@
 -- Document 01, "The record".
 -- Assumes nothing.
 use Prim.Native.Nat.{ℕ, zero, suc, pred, _+_, _-_, _*_, _/_, _%_}
-use mathlib.Core.Bool.{Bool, true, false, not}
-use mathlib.Core.List.{List, [], _∷_}
+use mathlib.Core.Bool.{Bool, not}
+use mathlib.Core.List.{List, []}
 use lib.Dec.{ltb, eqb}
 use lib.ListN.{length, getD, take, drop}
 use Rattle.folds.specs.Folds.{_and_, _or_, sumTo, firstTo, tabulate}

@@ -1,9 +1,8 @@
 -- Document 01, "Examples": the tables, as bytes.
 -- Assumes nothing.
-use Prim.Native.Nat.{ℕ, zero, suc, _+_, _*_, _/_, _%_}
+use Prim.Native.Nat.{ℕ, zero, suc, _+_, _/_, _%_}
 use mathlib.Core.List.{List, [], _∷_, _++_}
-use lib.ListN.{getD}
-use Rattle.folds.specs.Folds.{sumTo, tabulate}
+use Rattle.folds.specs.Folds.{sumTo}
 use Rattle.rules.specs.Record.{first, number, sumOf}
 
 -- ---- records

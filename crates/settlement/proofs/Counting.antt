@@ -12,7 +12,7 @@ use lib.ListN.{length, getD, set, replicate}
 use borrow.Author.Tests.{eqb-true, eqb-false, eq-eqb, ne-eqb, ltb-true, ltb-false}
 use Rattle.folds.specs.Folds.{_and_, _or_, bit, countTo, anyTo, firstTo, tabulate}
 use Rattle.folds.proofs.Tests.{by-test, not-both, failed, and-left, and-right, and-true, or-cases, or-right, not-true, is-not, compare}
-use Rattle.folds.proofs.Laws.{first-by, any-none, any-witness, any-intro, count-mono, count-same}
+use Rattle.folds.proofs.Laws.{first-by, any-none, any-witness, any-intro, count-same}
 use Rattle.folds.proofs.Lists.{getD-tabulate, tabulate-same}
 use Rattle.rules.specs.declared.Name.{Name}
 use Rattle.rules.specs.declared.Vertex.{Vertex}

@@ -2,21 +2,20 @@
 -- Assumes nothing.
 use Prim.Native.Nat.{ℕ, zero, suc, _+_, _-_, _≤_, _<_}
 use mathlib.Core.Path.{_≡_, refl, sym, ap, _∙_}
-use mathlib.Core.Bool.{Bool, true, false}
+use mathlib.Core.Bool.{Bool, false}
 use mathlib.Core.List.{List, [], _∷_, _++_, map}
 use native.Mathlib.Omega.{arith}
 use native.Mathlib.Nat.{le-refl, le-of-suc-le-suc, not-suc-le-zero}
 use lib.Dec.{eqb}
-use lib.ListN.{length, getD, take, drop, length-append, length-take, length-drop, length-map, List·getD-append, List·getD-map}
+use lib.ListN.{length, getD, take, drop, length-append, length-drop, length-map, List·getD-append, List·getD-map}
 use lib.Seq.{drop-at}
 use borrow.Author.Tests.{ne-eqb, ltb-false}
-use Rattle.folds.specs.Folds.{bit, firstTo, member, tabulate}
+use Rattle.folds.specs.Folds.{firstTo, tabulate}
 use Rattle.folds.proofs.Tests.{or-neither}
 use Rattle.folds.proofs.Laws.{First, first-by, first-is}
 use Rattle.folds.proofs.Lists.{length-tabulate}
 use Rattle.rules.specs.declared.Vertex.{Vertex}
 use Rattle.rules.specs.declared.Refusal.{Refusal}
-use Rattle.rules.specs.declared.Refusal.the-variants.{Lent}
 use Rattle.rules.specs.declared.Checked.the-variants.{Passed, Refused}
 use Rattle.rules.specs.declared.Counts.{Counts}
 use Rattle.rules.specs.declared.Outcome.the-variants as outcome

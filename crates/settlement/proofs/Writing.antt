@@ -9,13 +9,13 @@ use native.Mathlib.Omega.{arith}
 use native.Mathlib.Nat.{le-refl, le-step, le-of-suc-le-suc, eq-or-lt-of-le}
 use native.Mathlib.Numerals.{add-one}
 use lib.Dec.{ltb, eqb}
-use lib.ListN.{length, getD, set, take, drop, length-set, length-append, length-take, length-drop, List·getD-append, take-append-drop}
-use lib.Seq.{take-at, drop-append-add, drop-drop, getD-at, getD-set-same, getD-set-other, set-getD, ext-getD, drop-at, set-append-left, drop-set-lt, drop-cons, append-snoc}
+use lib.ListN.{length, getD, set, take, drop, length-set, length-append, length-take, length-drop, take-append-drop}
+use lib.Seq.{take-at, drop-append-add, drop-drop, getD-at, getD-set-same, getD-set-other, set-getD, drop-set-lt, drop-cons}
 use borrow.Author.Tests.{eqb-true, eqb-false, eq-eqb, ne-eqb, ltb-true, ltb-false}
 use Rattle.folds.specs.Folds.{_and_, _or_, bit, countTo, filterTo, tabulate}
-use Rattle.folds.proofs.Tests.{by-test, not-both, passed, failed, compare, and-left, and-right, or-right, not-true}
+use Rattle.folds.proofs.Tests.{by-test, not-both, passed, failed, and-left, and-right, or-right, not-true}
 use Rattle.folds.proofs.Laws.{count-yes, count-no, count-and, count-witness}
-use Rattle.folds.proofs.Lists.{filter-yes, filter-no, filter-length, length-tabulate, getD-tabulate, tabulate-same, tabulate-next, put-next}
+use Rattle.folds.proofs.Lists.{filter-yes, filter-no, filter-length, length-tabulate, put-next}
 use Rattle.rules.specs.declared.Vertex.{Vertex}
 use Rattle.rules.specs.Record.{first, records, vertices, at, nameOf, entry, entryName, find}
 use Rattle.rules.specs.Support.{references}
@@ -28,7 +28,7 @@ use Rattle.table.proofs.Earlier.{entry-named}
 use Rattle.decide.specs.Sweep.{markedFrom}
 use Rattle.settlement.specs.Write.{placesOver, written, due, moreAt, byteOf, dueFrom, Told, MarkedOne, MarkedMore, MarkedDown, fresh, Led}
 use Rattle.decide.specs.Work.{bytesOver}
-use Rattle.decide.proofs.Bytes.{or-last, set-tabulate, over-at, over-length, over-same, over-over, over-set, over-next, over-keep, over-none}
+use Rattle.decide.proofs.Bytes.{or-last, over-at, over-length, over-same, over-over, over-set, over-next, over-keep, over-none}
 use Rattle.decide.proofs.Sweeps.{history-past, marked-history, marked-start, marked-next, marked-same, namedTo, named-none, named-all, named-same, named-next, find-among}
 
 -- ---- places that are written from `count` on

@@ -6,7 +6,7 @@ use mathlib.Core.Bool.{Bool, true, false, not, cond}
 use mathlib.Core.List.{List, _++_}
 use lib.ListN.{length, getD, set, take, drop}
 use lib.Dec.{eqb}
-use Rattle.folds.specs.Folds.{_and_, _or_, bit, filterTo, tabulate}
+use Rattle.folds.specs.Folds.{_and_, _or_, bit, filterTo}
 use Rattle.rules.specs.declared.Vertex.{Vertex}
 use Rattle.rules.specs.Record.{at, nameOf}
 use Rattle.rules.specs.Support.{references}

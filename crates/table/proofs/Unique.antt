@@ -2,8 +2,6 @@
 -- `Post` is a call's promise as it stands in its contract, so a weaker one would not pass here. No call changes what it is lent.
 -- Assumes nothing.
 use mathlib.Core.Path.{_≡_, sym, _∙_}
-use mathlib.Core.List.{List}
-use Prim.Native.Nat.{ℕ}
 use Rattle.rules.proofs.Only.{Only}
 use Rattle.table.proofs.place.Kinds as place-kinds
 use Rattle.table.proofs.place.Reads as place

@@ -1,8 +1,7 @@
 -- `settlement::settle` meets its contract: the refusal that `decide` answers, or a settled table.
 -- Assumes nothing.
 use Prim.Native.Nat.{ℕ, _≤_, _<_}
-use mathlib.Core.Path.{_≡_, refl, sym, ap, _∙_}
-use mathlib.Core.List.{List}
+use mathlib.Core.Path.{_≡_, refl, sym, _∙_}
 use native.Mathlib.Omega.{arith}
 use lib.Dec.{eqb}
 use lib.ListN.{length, getD}
@@ -10,11 +9,10 @@ use Rattle.rules.specs.declared.Checked.the-variants.{Passed}
 use Rattle.rules.specs.declared.Counts.{Counts}
 use Rattle.rules.specs.declared.Outcome.the-variants as outcome
 use Rattle.rules.specs.Record.{first, records, vertices}
-use Rattle.rules.specs.Check.{check}
 use Rattle.rules.specs.Decision.{cell}
 use Rattle.rules.specs.Decide.{document01, highest, decisions, decisionAt}
 use Rattle.rules.specs.Order.{order}
-use Rattle.rules.specs.Settlement.{Buffers, lent}
+use Rattle.rules.specs.Settlement.{lent}
 use Rattle.rules.proofs.Records.{vertices-length}
 use Rattle.rules.proofs.Decide.{decisions-length}
 use Rattle.decide.specs.Promise.{DecidesTo}

@@ -1,7 +1,7 @@
 -- `decide::tags::count_tagged` meets its contract. The loop's invariant: c of the bytes before q have the tag.
 -- The measure is the bytes that are left.
 -- Assumes nothing.
-use Prim.Native.Nat.{_+_, _-_, _≤_}
+use Prim.Native.Nat.{_-_, _≤_}
 use mathlib.Core.Path.{_≡_, sym, _∙_}
 use mathlib.Core.Logic.{⊎-elim}
 use Rattle.folds.specs.Folds.{countTo}

@@ -1,11 +1,11 @@
--- What one vertex certifies of a slot, as it is worked out: the mark that each of its references backs, then the mark that enough of them back.
+-- What one vertex certifies of a slot, as it is worked out: the mark that each of its references backs.
 -- Assumes nothing.
 use Prim.Native.Nat.{ℕ}
-use mathlib.Core.Bool.{not, cond}
+use mathlib.Core.Bool.{cond}
 use mathlib.Core.List.{List}
-use lib.Dec.{leb, ltb, eqb}
+use lib.Dec.{ltb, eqb}
 use lib.ListN.{length, getD}
-use Rattle.folds.specs.Folds.{_and_, countTo, firstTo, tabulate}
+use Rattle.folds.specs.Folds.{_and_, firstTo, tabulate}
 use Rattle.rules.specs.declared.Vertex.{Vertex}
 use Rattle.rules.specs.Record.{at, entry, vertexOf}
 use Rattle.rules.specs.Support.{certifies}
@@ -14,16 +14,6 @@ use Rattle.table.specs.Named.{named}
 -- Entry i of the list: the mark that the vertex of (round, i, refs i) holds for the leader. 0 if there is none, and from n on.
 unfoldable pub backs : ℕ → List Vertex → List ℕ → (round leader : ℕ) → List ℕ
 backs n vs refs round leader = tabulate (λ i. cond (ltb i n) (entry (vertexOf vs (named round i (getD refs i 0))) leader) 0) 31
-
--- How many of the 31 are the mark.
-unfoldable pub countMark : List ℕ → ℕ → ℕ
-countMark marks mark = countTo (λ i. eqb (getD marks i 0) mark) 31
-
--- The first mark that is not 0 and of which there are at least q; 0 if there is none.
-unfoldable pub enoughOf : List ℕ → ℕ → ℕ
-enoughOf marks q =
-    let i = firstTo (λ i. not (eqb (getD marks i 0) 0) and leb q (countMark marks (getD marks i 0))) 31 in
-    cond (ltb i 31) (getD marks i 0) 0
 
 -- Where the first vertex of that round and leader stands that the vertex at w certifies, or the number of records.
 unfoldable pub certifiedAt : ℕ → List Vertex → (round leader : ℕ) → ℕ → ℕ

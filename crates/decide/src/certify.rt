@@ -3,20 +3,15 @@ ghost use mathlib.Core.Path.{_≡_};
 ghost use Prim.Native.Nat.{_+_, _<_, _≤_};
 ghost use lib.ListN.{length};
 ghost use Rattle.rules.specs.declared.Checked.the-variants.{Passed};
-ghost use Rattle.rules.specs.Authors.{quorum};
 ghost use Rattle.rules.specs.Record.{first, records, vertices, at, entry, vertexOf};
 ghost use Rattle.rules.specs.Check.{check};
-ghost use Rattle.decide.specs.Certify.{backs, countMark, enoughOf, certifiedAt};
+ghost use Rattle.decide.specs.Certify.{backs, certifiedAt};
 use crate::range::entry_at;
 use record::RECORD;
 use rules::Name;
 use table::find;
-
-pub(crate) fn quorum_of(n: u8) -> usize
-    ensures { λ r. ⌜ r ≡ quorum n ⌝ }
-{
-    2 * (n as usize / 3) + 1
-}
+use tally::enough_of;
+use tally::quorum_of;
 
 // The mark that the vertex of that name holds for the leader, or 0 if there is no such vertex. No vertex has mark 0, so none is looked for.
 fn back(n: u8, table: &[u8], x: Name, leader: u8) -> u32
@@ -52,38 +47,6 @@ fn backing(n: u8, table: &[u8], refs: [u32; 31], round: u32, leader: u8) -> [u32
         i += 1;
     }
     marks
-}
-
-// How many of the references back the mark.
-fn count_mark(marks: [u32; 31], mark: u32) -> usize
-    ensures { λ r. ⌜ r ≡ countMark marks mark ⌝ }
-{
-    let mut c: usize = 0;
-    let mut i: usize = 0;
-    while i < 31 {
-        if marks[i] == mark {
-            c += 1;
-        }
-        i += 1;
-    }
-    c
-}
-
-// The mark that at least q of the references back, or 0.
-fn enough_of(marks: [u32; 31], q: usize) -> u32
-    ensures { λ r. ⌜ r ≡ enoughOf marks q ⌝ }
-{
-    let mut i: usize = 0;
-    while i < 31 {
-        let mark = marks[i];
-        if mark != 0 {
-            if q <= count_mark(marks, mark) {
-                return mark;
-            }
-        }
-        i += 1;
-    }
-    0
 }
 
 // Where the vertex of that round and leader stands that the vertex at w certifies, or the number of records.

@@ -12,12 +12,12 @@ ghost use Rattle.decide.specs.Certify.{certifiedAt};
 ghost use Rattle.decide.specs.Range.{startOf};
 ghost use Rattle.decide.specs.Work.{Retagged, Tagged, windowTag, tagAt};
 ghost use Rattle.decide.specs.Cells.{firstIn};
-use crate::certify::quorum_of;
 use crate::range::begin;
 use crate::tags::authors_tagged;
 use crate::tags::tag_blank;
 use crate::tags::tag_certified;
 use record::RECORD;
+use tally::quorum_of;
 
 fn smaller(a: usize, b: usize) -> usize
     ensures { λ r. ⌜ r ≡ min a b ⌝ }

@@ -1,7 +1,7 @@
 // Tags on the vertices of one round, kept in the lower part of the work bytes, and the count of different authors that have a tag.
 ghost use mathlib.Core.Path.{_≡_};
 ghost use mathlib.Core.Bool.{cond};
-ghost use Prim.Native.Nat.{_+_, _-_, _/_, _%_, _<_, _≤_, min};
+ghost use Prim.Native.Nat.{_+_, _-_, _/_, _%_, _<_, _≤_};
 ghost use lib.Dec.{eqb, ltb};
 ghost use lib.ListN.{length, getD};
 ghost use Rattle.folds.specs.Folds.{_and_, bit, countTo};
@@ -13,6 +13,7 @@ ghost use Rattle.decide.specs.Work.{tagAt, Tagged, authorsTagged, window
 use crate::certify::certified_at;
 use crate::range::begin;
 use crate::range::entry_at;
+use tally::once;
 
 // The byte with another tag; whether it is in the history stays.
 fn with_tag(byte: u8, tag: u8) -> u8
@@ -97,16 +98,6 @@ fn count_tagged(marks: &[u8], from: usize, to: usize, tag: u8) -> usize
             c += 1;
         }
         q += 1;
-    }
-    c
-}
-
-// An author counts once, however many of its vertices have the tag.
-fn once(c: usize) -> usize
-    ensures { λ r. ⌜ r ≡ min c 1 ⌝ }
-{
-    if 1 < c {
-        return 1;
     }
     c
 }

@@ -6,7 +6,7 @@ ghost use lib.Dec.{eqb};
 ghost use lib.ListN.{length, getD};
 ghost use Rattle.folds.specs.Folds.{countTo};
 ghost use Rattle.rules.specs.declared.Checked.the-variants.{Passed};
-ghost use Rattle.rules.specs.Authors.{isCount, quorum};
+ghost use Rattle.rules.specs.Authors.{isCount};
 ghost use Rattle.rules.specs.Record.{first, records, vertices, at, sameName};
 ghost use Rattle.rules.specs.Record.{below as isBelow};
 ghost use Rattle.rules.specs.Refusals.{eachTo};
@@ -39,12 +39,6 @@ fn is_count(n: u8) -> bool
         return false;
     }
     n % 3 == 1
-}
-
-fn quorum_of(n: u8) -> usize
-    ensures { λ r. ⌜ r ≡ quorum n ⌝ }
-{
-    2 * (n as usize / 3) + 1
 }
 
 // x stands below y, by round, then author, then mark.
@@ -187,7 +181,7 @@ fn entries_wrong(n: u8, v: Vertex) -> bool
         return true;
     }
     if 1 < v.round {
-        return all < quorum_of(n);
+        return all < tally::quorum_of(n);
     }
     false
 }

@@ -1,8 +1,8 @@
--- `decide::tags::once` meets its contract.
+-- `tally::once` meets its contract.
 -- Assumes nothing.
 use native.Mathlib.Omega.{arith}
-use Rattle.decide.proofs.tags.once.Statement.{statement}
-use Rattle.decide.proofs.tags.once.Tie as tie
+use Rattle.tally.proofs.once.Statement.{statement}
+use Rattle.tally.proofs.once.Tie as tie
 
 returns : tie.Need-returns
 returns c = omega (arith, c .if1 .taken)

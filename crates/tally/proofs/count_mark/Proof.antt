@@ -1,4 +1,4 @@
--- `decide::certify::count_mark` meets its contract. The loop's invariant: c of the first i are the mark.
+-- `tally::count_mark` meets its contract. The loop's invariant: c of the first i are the mark.
 -- The measure is what is left of the 31.
 -- Assumes nothing.
 use Prim.Native.Nat.{ℕ, _-_, _≤_}
@@ -11,11 +11,11 @@ use lib.ListN.{getD}
 use borrow.Author.Tests.{eq-eqb, ne-eqb}
 use Rattle.folds.specs.Folds.{countTo}
 use Rattle.folds.proofs.Laws.{count-start, count-yes, count-no}
-use Rattle.decide.specs.Certify.{countMark}
+use Rattle.tally.specs.Marks.{countMark}
 use native.Mathlib.Omega.{arith}
 use borrow.Author.Needs.{needs}
-use Rattle.decide.proofs.certify.count_mark.Statement.{statement}
-use Rattle.decide.proofs.certify.count_mark.Tie as tie
+use Rattle.tally.proofs.count_mark.Statement.{statement}
+use Rattle.tally.proofs.count_mark.Tie as tie
 
 -- the mark stands at i
 abbrev mark-at : List ℕ → ℕ → ℕ → Bool

@@ -1,9 +1,9 @@
--- `table::quorum_of` meets its contract.
+-- `tally::quorum_of` meets its contract.
 -- Assumes nothing.
 use mathlib.Core.Path.{refl}
 use borrow.Author.Needs.{needs}
-use Rattle.table.proofs.quorum_of.Statement.{statement}
-use Rattle.table.proofs.quorum_of.Tie as tie
+use Rattle.tally.proofs.quorum_of.Statement.{statement}
+use Rattle.tally.proofs.quorum_of.Tie as tie
 
 mul-result : tie.Need-mul-result
 mul-result c = search needs

@@ -1,4 +1,4 @@
--- `decide::certify::enough_of` meets its contract. The loop's invariant: enough back none of the first i marks.
+-- `tally::enough_of` meets its contract. The loop's invariant: enough back none of the first i marks.
 -- The measure is what is left of the 31.
 -- Assumes nothing.
 use Prim.Native.Nat.{ℕ, _-_, _≤_, _<_}
@@ -7,11 +7,11 @@ use mathlib.Core.Logic.{⊎-elim}
 use mathlib.Core.Bool.{false}
 use native.Mathlib.Nat.{not-suc-le-zero}
 use borrow.Author.Count.{below-more}
-use Rattle.decide.proofs.Certified.{enoughAt, enough-found, enough-none, enough-empty, enough-few, enough-many}
+use Rattle.tally.proofs.Marks.{enoughAt, enough-found, enough-none, enough-empty, enough-few, enough-many}
 use native.Mathlib.Omega.{arith}
 use borrow.Author.Needs.{needs}
-use Rattle.decide.proofs.certify.enough_of.Statement.{statement}
-use Rattle.decide.proofs.certify.enough_of.Tie as tie
+use Rattle.tally.proofs.enough_of.Statement.{statement}
+use Rattle.tally.proofs.enough_of.Tie as tie
 
 abbrev Inv-loop : tie.InvT-loop
 Inv-loop q marks i₀ i = (i ≤ 31) × ((j : ℕ) → j < i → enoughAt marks q j ≡ false)

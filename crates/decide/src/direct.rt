@@ -1,7 +1,7 @@
 // The direct rules.
 ghost use mathlib.Core.Path.{_≡_};
 ghost use mathlib.Core.Bool.{true};
-ghost use Prim.Native.Nat.{ℕ, _+_, _-_, _<_, _≤_, min};
+ghost use Prim.Native.Nat.{ℕ, _+_, _-_, _<_, _≤_};
 ghost use lib.ListN.{length};
 ghost use Rattle.folds.specs.Folds.{firstTo};
 ghost use Rattle.rules.specs.declared.Checked.the-variants.{Passed};
@@ -13,17 +13,12 @@ ghost use Rattle.decide.specs.Range.{startOf};
 ghost use Rattle.decide.specs.Work.{Retagged, Tagged, windowTag, tagAt};
 ghost use Rattle.decide.specs.Cells.{firstIn};
 use crate::range::begin;
+use crate::range::smaller;
 use crate::tags::authors_tagged;
 use crate::tags::tag_blank;
 use crate::tags::tag_certified;
 use record::RECORD;
 use tally::quorum_of;
-
-fn smaller(a: usize, b: usize) -> usize
-    ensures { λ r. ⌜ r ≡ min a b ⌝ }
-{
-    if a < b { a } else { b }
-}
 
 // The first vertex from b up to e that a quorum certifies, or e. The tags say who certifies which.
 fn commit_in(n: u8, table: &[u8], round: u32, leader: u8, b: usize, e: usize, marks: &[u8]) -> usize

@@ -1,7 +1,7 @@
 // The history of an anchor, marked in the upper part of the work bytes from the anchor downward. References are to earlier records, so
 // one pass finds all; it stops where the round in hand needs no more, and goes on from there for the next.
 ghost use mathlib.Core.Path.{_≡_};
-ghost use Prim.Native.Nat.{ℕ, suc, _+_, _-_, _/_, _%_, _<_, _≤_, min};
+ghost use Prim.Native.Nat.{ℕ, suc, _+_, _-_, _/_, _%_, _<_, _≤_};
 ghost use lib.Dec.{eqb};
 ghost use lib.ListN.{length};
 ghost use Rattle.folds.specs.Folds.{_or_, bit};
@@ -17,6 +17,7 @@ ghost use Rattle.decide.specs.Sweep.{Swept};
 ghost use Rattle.decide.specs.Cells.{firstIn, Walked};
 use crate::certify::certified_at;
 use crate::range::begin;
+use crate::range::smaller;
 use record::RECORD;
 use rules::Name;
 use table::find;
@@ -160,12 +161,6 @@ pub(crate) fn walk_to(
     }
 }
 
-fn lower(a: usize, b: usize) -> usize
-    ensures { λ r. ⌜ r ≡ min a b ⌝ }
-{
-    if a < b { a } else { b }
-}
-
 // The lowest-mark vertex of the slot that some vertex in the history certifies, or the number of records.
 pub(crate) fn certified_in(
     n: u8,
@@ -188,7 +183,7 @@ pub(crate) fn certified_in(
     let mut best = table.len() / RECORD;
     while w < end {
         if 128 <= marks[w] {
-            best = lower(best, certified_at(n, table, w, round, leader));
+            best = smaller(best, certified_at(n, table, w, round, leader));
         }
         w += 1;
     }

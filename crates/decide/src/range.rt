@@ -1,6 +1,6 @@
 // Where the records of a round, and of an author in it, begin. Names rise, so they stand side by side.
 ghost use mathlib.Core.Path.{_≡_};
-ghost use Prim.Native.Nat.{_<_};
+ghost use Prim.Native.Nat.{_<_, min};
 ghost use Rattle.rules.specs.Record.{first, records, vertices, at, entry};
 ghost use Rattle.decide.specs.Range.{startOf};
 use record::RECORD;
@@ -28,4 +28,10 @@ pub(crate) fn entry_at(table: &[u8], p: usize, i: usize) -> u32
     ensures { λ r. ⌜ r ≡ entry (at (vertices first (now (table .entry))) p) i ⌝ }
 {
     record::entry_of(&table[RECORD * p..RECORD * p + RECORD], i)
+}
+
+pub(crate) fn smaller(a: usize, b: usize) -> usize
+    ensures { λ r. ⌜ r ≡ min a b ⌝ }
+{
+    if a < b { a } else { b }
 }

@@ -14,17 +14,17 @@ use Rattle.rules.specs.Settlement.{tooShort, settled, settleIf, settle}
 use Rattle.rules.specs.Program.{holds, lines, printed}
 use Rattle.rules.proofs.Refusals.{then-passed, when-no}
 use Rattle.rules.specs.Tables.{unsummed, p1, p2, p3, p4, p5, p6, p7, p8, p9, p10, p11, p12, p13, p14}
-use Rattle.rules.specs.Examples.{Hold, Answer, answer, lent, a1, a2, a3, a4, a5, a6, a7, a8, a9, a10, a11, a12, a13, a14}
+use Rattle.rules.specs.Examples.{Hold, Answer, answer, nines, a1, a2, a3, a4, a5, a6, a7, a8, a9, a10, a11, a12, a13, a14}
 use Rattle.rules.specs.Open.{rules-open}
 
 -- The answer for a table that passes. What is printed and what is settled go through the same check, so that is computed once.
-passed : (t : List ℕ) (a : Answer) → check first 4 t ≡ Passed → ltb holds (length (4 ∷ t)) ≡ false → tooShort (document01 4) (vertices first t) lent ≡ false
-    → lines Passed (document01 4) 4 (vertices first t) ≡ a .prints → settled (document01 4) 4 (vertices first t) lent ≡ a .settles → answer t ≡ a
+passed : (t : List ℕ) (a : Answer) → check first 4 t ≡ Passed → ltb holds (length (4 ∷ t)) ≡ false → tooShort (document01 4) (vertices first t) nines ≡ false
+    → lines Passed (document01 4) 4 (vertices first t) ≡ a .prints → settled (document01 4) 4 (vertices first t) nines ≡ a .settles → answer t ≡ a
 unfolding printed settle settleIf
 passed t a c h l e f =
     let prints = then-passed _ _ (when-no _ _ h) ∙ c in
     let fits = then-passed _ _ c ∙ when-no _ _ l in
-    λ i. record { prints = (ap (λ k. lines k (document01 4) 4 (vertices first t)) prints ∙ e) i; settles = (ap (λ k. settleIf k (document01 4) 4 (vertices first t) lent) fits ∙ f) i }
+    λ i. record { prints = (ap (λ k. lines k (document01 4) 4 (vertices first t)) prints ∙ e) i; settles = (ap (λ k. settleIf k (document01 4) 4 (vertices first t) nines) fits ∙ f) i }
 
 ex1 : answer p1 ≡ a1
 unfolding rules-open p1

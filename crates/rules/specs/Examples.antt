@@ -20,15 +20,15 @@ use Rattle.rules.specs.Tables.{unsummed, p1, p2, p3, p4, p5, p6, p7, p8,
 -- ---- what is asked, and how an answer is written down
 
 -- 26 cells, places and bytes, all 9
-abbrev pub lent : Buffers
-lent = record { cells = replicate 26 9; order = replicate 26 9; taken = replicate 26 9 }
+abbrev pub nines : Buffers
+nines = record { cells = replicate 26 9; order = replicate 26 9; taken = replicate 26 9 }
 
 pub record Answer : Type 0 where
   pub prints : List ℕ
   pub settles : Settles
 
 abbrev pub answer : List ℕ → Answer
-answer t = record { prints = printed (4 ∷ t); settles = settle (document01 4) first 4 t lent }
+answer t = record { prints = printed (4 ∷ t); settles = settle (document01 4) first 4 t nines }
 
 -- the first places written, the rest of the 26 kept
 abbrev pub kept : List ℕ → List ℕ
@@ -43,7 +43,7 @@ settledAs s c xs ys zs =
     record { prints = bytesOf s; settles = record { outcome = Settled c; buffers = record { cells = kept xs; order = kept ys; taken = kept zs } } }
 
 abbrev pub refusedAs : String → Refusal → Answer
-refusedAs s r = record { prints = bytesOf s; settles = record { outcome = Refused r; buffers = lent } }
+refusedAs s r = record { prints = bytesOf s; settles = record { outcome = Refused r; buffers = nines } }
 
 -- ---- the answers of document 01
 

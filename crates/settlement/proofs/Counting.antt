@@ -23,7 +23,7 @@ use Rattle.rules.specs.Settlement.{equivocates, equivocators}
 use Rattle.rules.proofs.Names.{Below, is-below, below-round, below-mark}
 use Rattle.rules.proofs.Records.{vertices-length, vertices-at}
 use Rattle.rules.proofs.Accepted.{Accepted, accepted, author-low, rising}
-use Rattle.table.proofs.Names.{record-part, name-at, lent}
+use Rattle.table.proofs.Names.{record-part, name-at, lentPart}
 use Rattle.decide.proofs.Bytes.{or-last, set-tabulate}
 
 -- ---- a search from below
@@ -116,8 +116,8 @@ module _ {n : ℕ} {vs : List Vertex} (A : Accepted n vs) where
 
 -- ---- the names of two neighbours, as they are read
 
-module _ (t : List ℕ) (p : ℕ) (x y : Name) (l : p + 1 < records first t) (is-x : x ≡ nameOf (decode first (lent t p))) (is-y : y ≡ nameOf (decode first (lent t (p + 1)))) where
-  named-at : (q : ℕ) (z : Name) → q < records first t → z ≡ nameOf (decode first (lent t q)) → nameOf (at (vertices first t) q) ≡ z
+module _ (t : List ℕ) (p : ℕ) (x y : Name) (l : p + 1 < records first t) (is-x : x ≡ nameOf (decode first (lentPart t p))) (is-y : y ≡ nameOf (decode first (lentPart t (p + 1)))) where
+  named-at : (q : ℕ) (z : Name) → q < records first t → z ≡ nameOf (decode first (lentPart t q)) → nameOf (at (vertices first t) q) ≡ z
   named-at q z h e = name-at t q h ∙ ap (λ b. nameOf (decode first b)) (sym (record-part t q)) ∙ sym e
 
   sides : side (vertices first t) p ≡ eqb (x .round) (y .round) and eqb (x .author) (y .author)
@@ -167,12 +167,12 @@ pub splits-end : {n : ℕ} {vs : List Vertex} → Accepted n vs → splits vs (l
 splits-end {vs = vs} A = tabulate-same _ _ 31 (λ a h. ap bit (sym (split-is A a)))
 
 -- byte 134 of a record is its author
-pub author-byte : (t : List ℕ) (p b : ℕ) → p < records first t → b ≡ getD (lent t p) 134 0 → b ≡ at (vertices first t) p .author
+pub author-byte : (t : List ℕ) (p b : ℕ) → p < records first t → b ≡ getD (lentPart t p) 134 0 → b ≡ at (vertices first t) p .author
 unfolding decode
 author-byte t p b l e = e ∙ ap (λ r. getD r 134 0) (record-part t p) ∙ ap (λ (v : Vertex). v .author) (sym (vertices-at first t p l))
 
 -- and below 31
-pub author-few : (n : ℕ) (t : List ℕ) (p b : ℕ) → check first n t ≡ Passed → p < records first t → b ≡ getD (lent t p) 134 0 → b < 31
+pub author-few : (n : ℕ) (t : List ℕ) (p b : ℕ) → check first n t ≡ Passed → p < records first t → b ≡ getD (lentPart t p) 134 0 → b < 31
 author-few n t p b passed l e =
     let A = accepted first n t passed in
     omega (arith, A .few, author-low A p (rw (vertices-length first t) l), author-byte t p b l e)

@@ -37,10 +37,10 @@ by-mark x y r a = rw (eq-eqb _ _ r, le-ltb (x .round) (y .round) (omega arith), 
 pub own-bytes : (b : List ℕ) (p : ℕ) → take (138 * p + 138 - 138 * p) b ≡ take 138 b
 own-bytes b p = let e : 138 * p + 138 - 138 * p ≡ 138 = omega arith in rw e
 
-abbrev pub lent : List ℕ → ℕ → List ℕ
-lent t p = take (138 * p + 138 - 138 * p) (drop (138 * p) t)
+abbrev pub lentPart : List ℕ → ℕ → List ℕ
+lentPart t p = take (138 * p + 138 - 138 * p) (drop (138 * p) t)
 
-pub record-part : (t : List ℕ) (p : ℕ) → lent t p ≡ recordAt first t p
+pub record-part : (t : List ℕ) (p : ℕ) → lentPart t p ≡ recordAt first t p
 unfolding recordAt
 record-part t p = own-bytes (drop (138 * p) t) p
 

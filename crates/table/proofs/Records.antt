@@ -20,7 +20,7 @@ use Rattle.rules.proofs.Records.{vertices-at}
 use Rattle.rules.proofs.Refusals.{each-passed}
 use Rattle.rules.proofs.Accepted.{record-passed}
 use Rattle.table.specs.Ready.{Ready}
-use Rattle.table.proofs.Names.{lent, record-part}
+use Rattle.table.proofs.Names.{lentPart, record-part}
 
 -- the check of the record at p, of the first edition
 abbrev pub checkAt : ℕ → List ℕ → ℕ → Checked
@@ -32,10 +32,10 @@ unfolding isCount
 count-few n e = leb-true n 31 (and-left _ _ (and-right _ _ e))
 
 -- the bytes that are lent, decoded, are the vertex at p
-pub decoded-at : (t : List ℕ) (p : ℕ) (v : Vertex) → p < records first t → v ≡ decode first (lent t p) → v ≡ at (vertices first t) p
+pub decoded-at : (t : List ℕ) (p : ℕ) (v : Vertex) → p < records first t → v ≡ decode first (lentPart t p) → v ≡ at (vertices first t) p
 decoded-at t p v w e = e ∙ ap (decode first) (record-part t p) ∙ sym (vertices-at first t p w)
 
-module _ (n : ℕ) (t : List ℕ) (p : ℕ) (w : p < records first t) (v : Vertex) (is-v : v ≡ decode first (lent t p)) (sum : ℕ) (is-s : sum ≡ sumOf first (lent t p)) where
+module _ (n : ℕ) (t : List ℕ) (p : ℕ) (w : p < records first t) (v : Vertex) (is-v : v ≡ decode first (lentPart t p)) (sum : ℕ) (is-s : sum ≡ sumOf first (lentPart t p)) where
   is : v ≡ at (vertices first t) p
   is = decoded-at t p v w is-v
 

@@ -73,8 +73,8 @@ certified-at-requires c κs =
     let here = two-up-in n t ok r (s .args .leader) (s .args .a) la (l .loop .w) (l .loop .inv .0) (omega arith) in
     (ok, (here .within, here .round))
 
-lower-requires : tie.Need-lower-requires Inv-loop μ-loop
-lower-requires c κs = search needs
+smaller-requires : tie.Need-smaller-requires Inv-loop μ-loop
+smaller-requires c κs = search needs
 
 add-w : tie.Need-add-w Inv-loop μ-loop
 add-w c = search needs
@@ -132,7 +132,7 @@ certified-in-spec =
     loop-holds
     shared-slice-read-if1
     certified-at-requires
-    lower-requires
+    smaller-requires
     add-w
     loop-less
     loop-again

@@ -15,7 +15,7 @@ use Rattle.rules.specs.declared.Counts.{Counts}
 use Rattle.rules.specs.declared.Outcome.the-variants as outcome
 use Rattle.rules.specs.Record.{first, vertices, at}
 use Rattle.rules.specs.Decision.{Decision, undecided, skipped, committed, cell}
-use Rattle.rules.specs.Decide.{document01, highest, decisions, decisionAt}
+use Rattle.rules.specs.Decide.{boxSetting, highest, decisions, decisionAt}
 use Rattle.rules.specs.Order.{order}
 use Rattle.rules.specs.Refusals.{_when_, _then_}
 use Rattle.rules.specs.Check.{check}
@@ -32,8 +32,8 @@ said-cell (committed p) = let e : 2 + p ≡ suc (suc p) = omega arith in rw e
 
 -- What a settled call leaves, by its table's decisions and order.
 record Leaves (n : ℕ) (t : List ℕ) (c : Counts) (b : Buffers) : Type 0 where
-  cells : (s : ℕ) → s < c .highest → said (getD (b .cells) s 0) ≡ decisionAt (decisions (document01 n) n (vertices first t)) s
-  places : take (c .written) (b .order) ≡ order (document01 n) n (vertices first t)
+  cells : (s : ℕ) → s < c .highest → said (getD (b .cells) s 0) ≡ decisionAt (decisions (boxSetting n) n (vertices first t)) s
+  places : take (c .written) (b .order) ≡ order (boxSetting n) n (vertices first t)
 
 -- a buffer written over: what is new stands first
 over-at : (f : Decision ℕ → ℕ) (ds : List (Decision ℕ)) (old : List ℕ) (s : ℕ) → s < length ds → getD (writtenOver (map f ds) old) s 0 ≡ f (decisionAt ds s)
@@ -50,30 +50,30 @@ over-at f ds old s l = List·getD-append (map f ds) _ 0 s (rw (map-length f ds) 
 
 leaves : (n : ℕ) (t : List ℕ) (before : Buffers) (c : Counts) (after : Buffers) → SettledTo n t before c after → Leaves n t c after
 unfolding settle settleIf settled countsOf order
-leaves n t before c after S = go (check first n t then Lent when tooShort (document01 n) vs before) (S .outcome) (S .buffers)
+leaves n t before c after S = go (check first n t then Lent when tooShort (boxSetting n) vs before) (S .outcome) (S .buffers)
   where
     vs : List Vertex
     vs = vertices first t
 
     ds : List (Decision ℕ)
-    ds = decisions (document01 n) n vs
+    ds = decisions (boxSetting n) n vs
 
-    go : (k : Checked) → settleIf k (document01 n) n vs before .outcome ≡ outcome.Settled c → settleIf k (document01 n) n vs before .buffers ≡ after → Leaves n t c after
+    go : (k : Checked) → settleIf k (boxSetting n) n vs before .outcome ≡ outcome.Settled c → settleIf k (boxSetting n) n vs before .buffers ≡ after → Leaves n t c after
     go (Refused r) e f = absurd (let z : _≡_ {A = ℕ} 0 1 = cc in omega arith)
     go Passed e f =
-        let is : countsOf n vs ds (order (document01 n) n vs) ≡ c = cc in
-        let top : c .highest ≡ length ds = ap (λ (x : Counts). x .highest) (sym is) ∙ sym (decisions-length (document01 n) n vs) in
-        let count : c .written ≡ length (order (document01 n) n vs) = ap (λ (x : Counts). x .written) (sym is) in
+        let is : countsOf n vs ds (order (boxSetting n) n vs) ≡ c = cc in
+        let top : c .highest ≡ length ds = ap (λ (x : Counts). x .highest) (sym is) ∙ sym (decisions-length (boxSetting n) n vs) in
+        let count : c .written ≡ length (order (boxSetting n) n vs) = ap (λ (x : Counts). x .written) (sym is) in
         record {
           cells = λ s l. ap (λ (b : Buffers). said (getD (b .cells) s 0)) (sym f) ∙ ap said (over-at cell ds (before .cells) s (omega arith)) ∙ said-cell (decisionAt ds s);
-          places = ap (λ (b : Buffers). take (c .written) (b .order)) (sym f) ∙ rw count (take-at (order (document01 n) n vs) _ _ refl);
+          places = ap (λ (b : Buffers). take (c .written) (b .order)) (sym f) ∙ rw count (take-at (order (boxSetting n) n vs) _ _ refl);
         }
 
 pub demand-3-in-buffers : Demand3InBuffers
 demand-3-in-buffers n t u before before′ c d after after′ P S S′ =
     go (demand-3 n t u P) (leaves n t before c after S) (leaves n u before′ d after′ S′)
   where
-    go : Agree (document01 n) (document01 n) n (vertices first t) (vertices first u) → Leaves n t c after → Leaves n u d after′ → AgreeIn t u c d after after′
+    go : Agree (boxSetting n) (boxSetting n) n (vertices first t) (vertices first u) → Leaves n t c after → Leaves n u d after′ → AgreeIn t u c d after after′
     go A L L′ = record {
       alike = λ s l l′ h h′. rw (L .cells s l, L′ .cells s l′) (A .alike s (rw (L .cells s l) at h) (rw (L′ .cells s l′) at h′));
       orders = rw (L .places, L′ .places) (A .orders);

@@ -13,7 +13,7 @@ use Rattle.rules.specs.Record.{at}
 use Rattle.rules.specs.Decision.{Decision, skipped, committed, Decided}
 use Rattle.rules.specs.Support.{directCommit}
 use Rattle.rules.specs.History.{history}
-use Rattle.rules.specs.Decide.{Setting, document01, certifiedIn, throughAnchor, decisions, decisionAt}
+use Rattle.rules.specs.Decide.{Setting, boxSetting, certifiedIn, throughAnchor, decisions, decisionAt}
 use Rattle.rules.proofs.Accepted.{Accepted}
 use Rattle.rules.proofs.Decisions.{committed-decided, skipped-decided}
 use Rattle.rules.proofs.Decide.{Chosen, chosen, nobody, choose-is, Because, direct, skips, through, blocked, because}
@@ -56,13 +56,13 @@ module _ (C : Setting) (later : (s : ℕ) → s < C .slots .start s) {n : ℕ} {
   all-below = settled-below later box (λ s t a e. anchor-decides s a)
 
 -- Three rounds in a row are decided and the last of them is committed: then every earlier round is decided. Slot s is that of round s + 1.
-pub three-decided : {n : ℕ} {vs : List Vertex} → Accepted n vs → (s a : ℕ) → Decided (decisionAt (decisions (document01 n) n vs) s)
-    → Decided (decisionAt (decisions (document01 n) n vs) (s + 1)) → decisionAt (decisions (document01 n) n vs) (s + 2) ≡ committed a
-    → (u : ℕ) → u ≤ s + 2 → Decided (decisionAt (decisions (document01 n) n vs) u)
-three-decided {n} {vs} A s a h0 h1 h2 = all-below (document01 n) (one-leader n .later) A (s + 2) a h2 s run (λ u l. omega arith)
+pub three-decided : {n : ℕ} {vs : List Vertex} → Accepted n vs → (s a : ℕ) → Decided (decisionAt (decisions (boxSetting n) n vs) s)
+    → Decided (decisionAt (decisions (boxSetting n) n vs) (s + 1)) → decisionAt (decisions (boxSetting n) n vs) (s + 2) ≡ committed a
+    → (u : ℕ) → u ≤ s + 2 → Decided (decisionAt (decisions (boxSetting n) n vs) u)
+three-decided {n} {vs} A s a h0 h1 h2 = all-below (boxSetting n) (one-leader n .later) A (s + 2) a h2 s run (λ u l. omega arith)
   where
     At : ℕ → Type 0
-    At u = Decided (decisionAt (decisions (document01 n) n vs) u)
+    At u = Decided (decisionAt (decisions (boxSetting n) n vs) u)
 
     run : (u : ℕ) → s ≤ u → u ≤ s + 2 → At u
     run u l l′ = go (compare u (s + 1))

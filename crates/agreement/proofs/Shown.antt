@@ -18,7 +18,7 @@ use Rattle.rules.specs.Authors.{faults}
 use Rattle.rules.specs.Record.{Edition, first, recordAt, records, vertices, at, nameOf, sameName}
 use Rattle.rules.specs.Check.{check}
 use Rattle.rules.specs.Decision.{skipped, committed, tell}
-use Rattle.rules.specs.Decide.{document01}
+use Rattle.rules.specs.Decide.{boxSetting}
 use Rattle.rules.specs.Settlement.{equivocators}
 use Rattle.rules.specs.Tables.{unsummed, summed, v, p2, p3}
 use Rattle.rules.specs.Open.{rules-open}
@@ -80,11 +80,11 @@ abbrev leader1 : Name
 leader1 = record { round = 1; author = 0; mark = 1 }
 
 -- both decide round 1, and the tables differ
-pub met2 : told (document01 4) 4 (vertices first p2) 0 ≡ committed leader1
+pub met2 : told (boxSetting 4) 4 (vertices first p2) 0 ≡ committed leader1
 unfolding rules-open p2
 met2 = refl
 
-pub met3 : told (document01 4) 4 (vertices first p3) 0 ≡ committed leader1
+pub met3 : told (boxSetting 4) 4 (vertices first p3) 0 ≡ committed leader1
 unfolding rules-open p3
 met3 = refl
 
@@ -98,7 +98,7 @@ differ e = eqb-false _ _ lengths (ap length e)
 -- ---- the pairs that contradict each other
 
 -- round 1 is committed by the one and skipped by the other
-contradict : (t u : List ℕ) (b : Name) → told (document01 4) 4 (vertices first t) 0 ≡ committed b → told (document01 4) 4 (vertices first u) 0 ≡ skipped → Contradict t u
+contradict : (t u : List ℕ) (b : Name) → told (boxSetting 4) 4 (vertices first t) 0 ≡ committed b → told (boxSetting 4) 4 (vertices first u) 0 ≡ skipped → Contradict t u
 unfolding tell
 contradict t u b e k A = skipped-apart e (A .alike 0 (λ z. committed-decided e (ap (tell _) z)) (λ z. skipped-decided k (ap (tell _) z)) ∙ k)
 
@@ -106,7 +106,7 @@ passes-commits : check first 4 commits1 ≡ Passed
 unfolding rules-open commits1 v unsummed summed
 passes-commits = refl
 
-commits : told (document01 4) 4 (vertices first commits1) 0 ≡ committed leader1
+commits : told (boxSetting 4) 4 (vertices first commits1) 0 ≡ committed leader1
 unfolding rules-open commits1 v unsummed summed
 commits = refl
 
@@ -114,7 +114,7 @@ passes-record : check first 4 otherRecord ≡ Passed
 unfolding rules-open otherRecord second v unsummed summed
 passes-record = refl
 
-skips-record : told (document01 4) 4 (vertices first otherRecord) 0 ≡ skipped
+skips-record : told (boxSetting 4) 4 (vertices first otherRecord) 0 ≡ skipped
 unfolding rules-open otherRecord second v unsummed summed
 skips-record = refl
 
@@ -139,7 +139,7 @@ passes-twice : check first 4 twoTwice ≡ Passed
 unfolding rules-open twoTwice second v unsummed summed
 passes-twice = refl
 
-skips-twice : told (document01 4) 4 (vertices first twoTwice) 0 ≡ skipped
+skips-twice : told (boxSetting 4) 4 (vertices first twoTwice) 0 ≡ skipped
 unfolding rules-open twoTwice second v unsummed summed
 skips-twice = refl
 

@@ -11,7 +11,7 @@ use Rattle.rules.specs.Authors.{faults}
 use Rattle.rules.specs.Record.{Edition, first, recordAt, records, vertices, at, nameOf}
 use Rattle.rules.specs.Check.{check}
 use Rattle.rules.specs.Decision.{Decision, Decided, tell}
-use Rattle.rules.specs.Decide.{Setting, document01, decisions, decisionAt}
+use Rattle.rules.specs.Decide.{Setting, boxSetting, decisions, decisionAt}
 use Rattle.rules.specs.Order.{order, namesAt}
 use Rattle.rules.specs.Settlement.{equivocators}
 
@@ -43,4 +43,4 @@ pub record Agree (C D : Setting) (n : ℕ) (vs ws : List Vertex) : Type 0 where
 
 -- The demand: of document 01's rules and record, for every author count and any two tables.
 abbrev pub Demand3 : Type 0
-Demand3 = (n : ℕ) (t u : List ℕ) → Premises first n t u → Agree (document01 n) (document01 n) n (vertices first t) (vertices first u)
+Demand3 = (n : ℕ) (t u : List ℕ) → Premises first n t u → Agree (boxSetting n) (boxSetting n) n (vertices first t) (vertices first u)

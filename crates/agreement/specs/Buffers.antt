@@ -10,7 +10,7 @@ use Rattle.rules.specs.declared.Counts.{Counts}
 use Rattle.rules.specs.declared.Outcome.the-variants.{Settled}
 use Rattle.rules.specs.Record.{first, vertices, at, nameOf}
 use Rattle.rules.specs.Decision.{Decision, undecided, skipped, committed, Decided, tell}
-use Rattle.rules.specs.Decide.{document01}
+use Rattle.rules.specs.Decide.{boxSetting}
 use Rattle.rules.specs.Settlement.{Buffers, settle}
 use Rattle.agreement.specs.Agreement.{Premises, Begins}
 
@@ -36,8 +36,8 @@ pub record AgreeIn (t u : List ℕ) (c d : Counts) (b b′ : Buffers) : Type 0 w
 
 -- A settlement with the lent buffers `before` that is settled, with these counts and these buffers after it.
 pub record SettledTo (n : ℕ) (t : List ℕ) (before : Buffers) (c : Counts) (after : Buffers) : Type 0 where
-  pub outcome : settle (document01 n) first n t before .outcome ≡ Settled c
-  pub buffers : settle (document01 n) first n t before .buffers ≡ after
+  pub outcome : settle (boxSetting n) first n t before .outcome ≡ Settled c
+  pub buffers : settle (boxSetting n) first n t before .buffers ≡ after
 
 abbrev pub Demand3InBuffers : Type 0
 Demand3InBuffers =

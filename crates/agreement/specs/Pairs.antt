@@ -7,7 +7,7 @@ use Rattle.rules.specs.declared.Checked.the-variants.{Passed}
 use Rattle.rules.specs.Authors.{faults}
 use Rattle.rules.specs.Record.{first, recordAt, records, vertices, at, nameOf}
 use Rattle.rules.specs.Check.{check}
-use Rattle.rules.specs.Decide.{document01}
+use Rattle.rules.specs.Decide.{boxSetting}
 use Rattle.rules.specs.Settlement.{equivocators}
 use Rattle.rules.specs.Tables.{unsummed, summed, v, not0}
 use Rattle.agreement.specs.Agreement.{Agree}
@@ -37,7 +37,7 @@ twoTwice = v 1 1 [] ++ v 1 2 [] ++ v 1 3 [] ++ second 2 1 not0 ++ second 2 2 not
 
 -- The boxes with these tables contradict each other.
 abbrev pub Contradict : List ℕ → List ℕ → Type 0
-Contradict t u = Agree (document01 4) (document01 4) 4 (vertices first t) (vertices first u) → ⊥
+Contradict t u = Agree (boxSetting 4) (boxSetting 4) 4 (vertices first t) (vertices first u) → ⊥
 
 -- All premises but that a name found in both stands for the same record.
 pub record WithoutOneRecord : Type 0 where

@@ -14,7 +14,7 @@ use Rattle.rules.specs.declared.Settlement.{Settlement}
 use Rattle.rules.specs.Record.{first, vertices}
 use Rattle.rules.specs.Refusals.{_when_, _then_}
 use Rattle.rules.specs.Check.{check}
-use Rattle.rules.specs.Decide.{document01}
+use Rattle.rules.specs.Decide.{boxSetting}
 use Rattle.rules.specs.Order.{order}
 use Rattle.rules.specs.Settlement.{Buffers, tooShort, settled, settleIf, settle}
 use Rattle.rules.proofs.Refusals.{then-passed, when-no}
@@ -48,26 +48,26 @@ calls = record {
 
 module _ (n : ℕ) (t : List ℕ) (before : Buffers) (x : Settlement) (after : Buffers) (S : SettlesTo n t before x after) where
   abbrev checked : Checked
-  checked = check first n t then Lent when tooShort (document01 n) (vertices first t) before
+  checked = check first n t then Lent when tooShort (boxSetting n) (vertices first t) before
 
   -- the buffers, all three
-  buffers : settle (document01 n) first n t before .buffers ≡ after
+  buffers : settle (boxSetting n) first n t before .buffers ≡ after
   buffers = λ i. record { cells = sym (S .cells) i; order = sym (S .order) i; taken = sym (S .taken) i }
 
   refused : (c : Checked) → checked ≡ c → Refuses n t before x after
   unfolding settle settleIf settled
   refused Passed e =
-      let is : x .outcome ≡ settled (document01 n) n (vertices first t) before .outcome = S .outcome ∙ ap (λ c. settleIf c (document01 n) n (vertices first t) before .outcome) e in
+      let is : x .outcome ≡ settled (boxSetting n) n (vertices first t) before .outcome = S .outcome ∙ ap (λ c. settleIf c (boxSetting n) n (vertices first t) before .outcome) e in
       record { given = λ r f. absurd (let z : _≡_ {A = ℕ} 0 1 = cc in omega arith); only-then = λ r f. absurd (let z : _≡_ {A = ℕ} 0 1 = cc in omega arith); untouched = λ r f. absurd (let z : _≡_ {A = ℕ} 0 1 = cc in omega arith) }
   refused (Refused s) e =
-      let is : x .outcome ≡ outcome.Refused s = S .outcome ∙ ap (λ c. settleIf c (document01 n) n (vertices first t) before .outcome) e in
-      let kept : after ≡ before = sym buffers ∙ ap (λ c. settleIf c (document01 n) n (vertices first t) before .buffers) e in
+      let is : x .outcome ≡ outcome.Refused s = S .outcome ∙ ap (λ c. settleIf c (boxSetting n) n (vertices first t) before .outcome) e in
+      let kept : after ≡ before = sym buffers ∙ ap (λ c. settleIf c (boxSetting n) n (vertices first t) before .buffers) e in
       record { given = λ r f. cc; only-then = λ r f. cc; untouched = λ r f. kept }
 
   pub refusals : Refuses n t before x after
   refusals = refused checked refl
 
-  pub settles : check first n t ≡ Passed → tooShort (document01 n) (vertices first t) before ≡ false → Settles n t before x after
+  pub settles : check first n t ≡ Passed → tooShort (boxSetting n) (vertices first t) before ≡ false → Settles n t before x after
   unfolding settle settleIf settled order
   settles p e =
       let fits : checked ≡ Passed = then-passed _ _ p ∙ when-no _ _ e in

@@ -16,7 +16,7 @@ use Rattle.rules.specs.Record.{first, vertices}
 use Rattle.rules.specs.Refusals.{_when_, _then_}
 use Rattle.rules.specs.Check.{check}
 use Rattle.rules.specs.Decision.{cell}
-use Rattle.rules.specs.Decide.{document01, decisions}
+use Rattle.rules.specs.Decide.{boxSetting, decisions}
 use Rattle.rules.specs.Order.{order}
 use Rattle.rules.specs.Settlement.{Buffers, lent, tooShort, countsOf, takenBytes, writtenOver}
 use Rattle.rules.specs.Examples.{Hold}
@@ -51,16 +51,16 @@ pub record Calls : Type 2 where
 module _ (n : ℕ) (t : List ℕ) (before : Buffers) (x : Settlement) (after : Buffers) where
   -- Each refusal is given exactly when document 01 says, and then only; a refused call changes no lent byte.
   pub record Refuses : Type 0 where
-    pub given : (r : Refusal) → (check first n t then Lent when tooShort (document01 n) (vertices first t) before) ≡ Refused r → x .outcome ≡ outcome.Refused r
-    pub only-then : (r : Refusal) → x .outcome ≡ outcome.Refused r → (check first n t then Lent when tooShort (document01 n) (vertices first t) before) ≡ Refused r
+    pub given : (r : Refusal) → (check first n t then Lent when tooShort (boxSetting n) (vertices first t) before) ≡ Refused r → x .outcome ≡ outcome.Refused r
+    pub only-then : (r : Refusal) → x .outcome ≡ outcome.Refused r → (check first n t then Lent when tooShort (boxSetting n) (vertices first t) before) ≡ Refused r
     pub untouched : (r : Refusal) → x .outcome ≡ outcome.Refused r → after ≡ before
 
   -- An accepted table is decided by document 01's rules, and the order written is the one that the decisions fix.
   pub record Settles : Type 0 where
-    pub counts : x .outcome ≡ outcome.Settled (countsOf n (vertices first t) (decisions (document01 n) n (vertices first t)) (order (document01 n) n (vertices first t)))
-    pub cells : after .cells ≡ writtenOver (map cell (decisions (document01 n) n (vertices first t))) (before .cells)
-    pub places : after .order ≡ writtenOver (order (document01 n) n (vertices first t)) (before .order)
-    pub taken : after .taken ≡ writtenOver (takenBytes (order (document01 n) n (vertices first t)) (length (vertices first t))) (before .taken)
+    pub counts : x .outcome ≡ outcome.Settled (countsOf n (vertices first t) (decisions (boxSetting n) n (vertices first t)) (order (boxSetting n) n (vertices first t)))
+    pub cells : after .cells ≡ writtenOver (map cell (decisions (boxSetting n) n (vertices first t))) (before .cells)
+    pub places : after .order ≡ writtenOver (order (boxSetting n) n (vertices first t)) (before .order)
+    pub taken : after .taken ≡ writtenOver (takenBytes (order (boxSetting n) n (vertices first t)) (length (vertices first t))) (before .taken)
 
 pub record Base : Type 2 where
   -- demand 1
@@ -68,7 +68,7 @@ pub record Base : Type 2 where
   pub refusals : (n : ℕ) (t : List ℕ) (before : Buffers) (x : Settlement) (after : Buffers) → SettlesTo n t before x after → Refuses n t before x after
   -- demand 2
   pub settles : (n : ℕ) (t : List ℕ) (before : Buffers) (x : Settlement) (after : Buffers) → SettlesTo n t before x after
-      → check first n t ≡ Passed → tooShort (document01 n) (vertices first t) before ≡ false → Settles n t before x after
+      → check first n t ≡ Passed → tooShort (boxSetting n) (vertices first t) before ≡ false → Settles n t before x after
   -- demand 3: of the rules, and of what two calls leave in their buffers
   pub boxes-agree : Demand3
   pub calls-agree : (n : ℕ) (t u : List ℕ) → Premises first n t u

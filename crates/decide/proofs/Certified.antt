@@ -19,14 +19,13 @@ use Rattle.rules.specs.declared.Name.{Name}
 use Rattle.rules.specs.declared.Vertex.{Vertex}
 use Rattle.rules.specs.declared.Checked.the-variants.{Passed}
 use Rattle.rules.specs.Authors.{quorum}
-use Rattle.rules.specs.Record.{first, records, vertices, noVertex, at, nameOf, entry, refers, entryName, sameName, find, vertexOf}
+use Rattle.rules.specs.Record.{first, records, vertices, noVertex, at, nameOf, entry, refers, entryName, sameName, find, vertexOf, named}
 use Rattle.rules.specs.Check.{check}
 use Rattle.rules.specs.Support.{references, supports, certifies}
 use Rattle.rules.proofs.Names.{name-path, same-name, name-same}
 use Rattle.rules.proofs.Records.{find-name}
 use Rattle.rules.proofs.Accepted.{Accepted, accepted, mark-pos, find-at}
 use Rattle.rules.proofs.Support.{references-is, is-references}
-use Rattle.table.specs.Named.{named}
 use Rattle.table.specs.Search.{findBelow}
 use Rattle.table.proofs.Finds.{find-below}
 use Rattle.tally.specs.Marks.{countMark, enoughOf}

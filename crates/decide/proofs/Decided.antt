@@ -8,7 +8,7 @@ use native.Mathlib.Omega.{arith}
 use lib.ListN.{length, take, drop, length-append, length-take}
 use lib.Seq.{drop-at}
 use borrow.Author.Tests.{lt-ltb, le-ltb}
-use Rattle.folds.specs.Folds.{tabulate}
+use Rattle.folds.specs.Folds.{tabulate, bytesOver}
 use Rattle.folds.proofs.Tests.{or-left, or-right, or-false}
 use Rattle.rules.specs.declared.Vertex.{Vertex}
 use Rattle.rules.specs.declared.Refusal.{Refusal}
@@ -18,10 +18,9 @@ use Rattle.rules.specs.Record.{first, records, vertices}
 use Rattle.rules.specs.Refusals.{_when_, _then_}
 use Rattle.rules.specs.Check.{check}
 use Rattle.rules.specs.Decision.{cell}
-use Rattle.rules.specs.Decide.{document01, highest, decisions}
+use Rattle.rules.specs.Decide.{boxSetting, highest, decisions}
 use Rattle.rules.specs.Settlement.{Buffers, writtenOver, tooShort}
 use Rattle.rules.proofs.Refusals.{then-refused, then-passed, when-yes, when-no}
-use Rattle.decide.specs.Work.{bytesOver}
 use Rattle.decide.specs.Promise.{DecidesTo, lentCheck, cellsAfter, takenAfter}
 
 module _ (n : ℕ) (t : List ℕ) (b : Buffers) where
@@ -39,7 +38,7 @@ module _ (n : ℕ) (t : List ℕ) (b : Buffers) where
 
   module _ (passes : check first n t ≡ Passed) where
     -- that of a lent buffer
-    too-short : tooShort (document01 n) vs b ≡ true → DecidesTo n t b (Refused Lent) (b .cells) (b .taken)
+    too-short : tooShort (boxSetting n) vs b ≡ true → DecidesTo n t b (Refused Lent) (b .cells) (b .taken)
     too-short e = refused Lent (then-passed _ _ passes ∙ when-yes _ _ e)
 
     pub short-cells : length (b .cells) < highest vs → DecidesTo n t b (Refused Lent) (b .cells) (b .taken)
@@ -55,7 +54,7 @@ module _ (n : ℕ) (t : List ℕ) (b : Buffers) where
     short-taken l = too-short (or-right _ _ (or-right _ _ (lt-ltb _ _ l)))
 
     module _ (c : highest vs ≤ length (b .cells)) (o : length vs ≤ length (b .order)) (k : length vs ≤ length (b .taken)) where
-      pub decided-to : (cells taken : List ℕ) → cells ≡ writtenOver (map cell (decisions (document01 n) n vs)) (b .cells) → taken ≡ bytesOver (λ p. 0) (records first t) (b .taken) → DecidesTo n t b Passed cells taken
+      pub decided-to : (cells taken : List ℕ) → cells ≡ writtenOver (map cell (decisions (boxSetting n) n vs)) (b .cells) → taken ≡ bytesOver (λ p. 0) (records first t) (b .taken) → DecidesTo n t b Passed cells taken
       unfolding cellsAfter takenAfter tooShort
       decided-to cells taken e f = record { answer = sym (then-passed _ _ passes ∙ when-no _ _ (or-false _ _ (le-ltb _ _ c) (or-false _ _ (le-ltb _ _ o) (le-ltb _ _ k)))); in-cells = e; in-taken = f }
 

@@ -23,7 +23,7 @@ use Rattle.rules.specs.Support.{references, certifies, directCommit, directSkip
 use Rattle.rules.specs.History.{history}
 use Rattle.rules.specs.Authors.{leader, oneLeader}
 use Rattle.rules.specs.Decision.{Decision, undecided, skipped, committed, cell}
-use Rattle.rules.specs.Decide.{document01, highest, inSlot, qualifies, lowest, choose, certifiedIn, anchor, throughAnchor, indirect, decide, decisions, decisionAt}
+use Rattle.rules.specs.Decide.{boxSetting, highest, inSlot, qualifies, lowest, choose, certifiedIn, anchor, throughAnchor, indirect, decide, decisions, decisionAt}
 use Rattle.rules.specs.Settlement.{writtenOver}
 use Rattle.rules.proofs.Records.{vertices-length}
 use Rattle.rules.proofs.Accepted.{Accepted, accepted}
@@ -217,7 +217,7 @@ module _ (n : ℕ) (t : List ℕ) (ok : check first n t ≡ Passed) (round : ℕ
       rw (same, vertices-length first t) (cell-choice (ltb p (records first t)) p d)
 
   pub through-cell : (a p : ℕ) → p ≡ firstIn (vertices first t) round (leader n round) (certifiedIn n (vertices first t) (history references (vertices first t) a))
-      → cell (throughAnchor (document01 n) n (vertices first t) (round - 1) a) ≡ cond (ltb p (records first t)) (2 + p) 1
+      → cell (throughAnchor (boxSetting n) n (vertices first t) (round - 1) a) ≡ cond (ltb p (records first t)) (2 + p) 1
   unfolding throughAnchor
   through-cell a p e = choose-cell (certifiedIn n (vertices first t) (history references (vertices first t) a)) skipped p e
 
@@ -245,7 +245,7 @@ highest-limit n t ok = by-test (eqb (records first t) 0) none some
 
 module _ (n : ℕ) (t : List ℕ) (ok : check first n t ≡ Passed) (round : ℕ) (pos : 0 < round) where
   abbrev ds : List (Decision ℕ)
-  ds = decisions (document01 n) n (vertices first t)
+  ds = decisions (boxSetting n) n (vertices first t)
 
   abbrev top : ℕ
   top = highest (vertices first t)
@@ -270,7 +270,7 @@ module _ (n : ℕ) (t : List ℕ) (ok : check first n t ≡ Passed) (round : ℕ
 
         out : top ≤ k → Stopped cells (stopAt cells (round + 2) top)
         out h = subst (Stopped cells) (stop-none cells (round + 2) top (λ u lu h′. skips u lu (omega arith) h′)) (past (le-refl top) q)
-    stopped (anchored k a l f e q) = by-test (ltb k top) (λ b. here (ltb-true k top b)) (λ b. absurd (committed-decided e (decisions-past (document01 n) n (vertices first t) k (ltb-false k top b))))
+    stopped (anchored k a l f e q) = by-test (ltb k top) (λ b. here (ltb-true k top b)) (λ b. absurd (committed-decided e (decisions-past (boxSetting n) n (vertices first t) k (ltb-false k top b))))
       where
         here : k < top → Stopped cells (stopAt cells (round + 2) top)
         here h =
@@ -304,7 +304,7 @@ module _ (n : ℕ) (t : List ℕ) (ok : check first n t ≡ Passed) (round : ℕ
     leads-above : (k a : ℕ) → round + 2 ≤ k → decisionAt ds k ≡ committed a → anchor (drop (round + 2) ds) ≡ committed a → Anchor a
     leads-above k a l d q =
         let A : Accepted n (vertices first t) = accepted first n t ok in
-        let lead = leads (document01 n) (one-later n) A k a d in
+        let lead = leads (boxSetting n) (one-later n) A k a d in
         let within : a < records first t = rw (vertices-length first t) at (lead .0) in
         let up : at (vertices first t) a .round ≡ k + 1 = slot-is (oneLeader n) k (at (vertices first t) a) (lead .1) .at-round in
         let under : Under (at (vertices first t) a) (round + 3) 0 → ⊥ = λ u. ⊎-elim (λ h. omega arith) (λ h. omega (arith, h .1)) u in
@@ -331,7 +331,7 @@ module _ (n : ℕ) (t : List ℕ) (ok : check first n t ≡ Passed) (round : ℕ
     s = round - 1
 
     other : Decision ℕ
-    other = cond (directSkip n (vertices first t) round (leader n round)) skipped (indirect (document01 n) n (vertices first t) s (anchor (drop (round + 2) ds)))
+    other = cond (directSkip n (vertices first t) round (leader n round)) skipped (indirect (boxSetting n) n (vertices first t) s (anchor (drop (round + 2) ds)))
 
     decide-is : decisionAt ds s ≡ choose (oneLeader n) (vertices first t) s (directCommit n (vertices first t)) other
     unfolding decide other
@@ -339,9 +339,9 @@ module _ (n : ℕ) (t : List ℕ) (ok : check first n t ≡ Passed) (round : ℕ
         let vs = vertices first t in
         let e : round - 1 + 1 ≡ round = omega arith in
         let d : suc s + (s + 3 - suc s) ≡ round + 2 = omega arith in
-        decisions-at (document01 n) n vs s (omega arith)
-        ∙ ap (λ (r : ℕ). choose (oneLeader n) vs s (directCommit n vs) (cond (directSkip n vs r (leader n r)) skipped (indirect (document01 n) n vs s (anchor (drop (s + 3 - suc s) (drop (suc s) ds)))))) e
-        ∙ ap (λ later. choose (oneLeader n) vs s (directCommit n vs) (cond (directSkip n vs round (leader n round)) skipped (indirect (document01 n) n vs s (anchor later)))) (drop-drop (s + 3 - suc s) (suc s) ds ∙ ap (λ (j : ℕ). drop j ds) d)
+        decisions-at (boxSetting n) n vs s (omega arith)
+        ∙ ap (λ (r : ℕ). choose (oneLeader n) vs s (directCommit n vs) (cond (directSkip n vs r (leader n r)) skipped (indirect (boxSetting n) n vs s (anchor (drop (s + 3 - suc s) (drop (suc s) ds)))))) e
+        ∙ ap (λ later. choose (oneLeader n) vs s (directCommit n vs) (cond (directSkip n vs round (leader n round)) skipped (indirect (boxSetting n) n vs s (anchor later)))) (drop-drop (s + 3 - suc s) (suc s) ds ∙ ap (λ (j : ℕ). drop j ds) d)
 
     module _ (p : ℕ) (is : p ≡ firstIn (vertices first t) round (leader n round) (directCommit n (vertices first t))) where
       by-choice : cell (decisionAt ds s) ≡ cond (ltb p (records first t)) (2 + p) (cell other)
@@ -356,16 +356,16 @@ module _ (n : ℕ) (t : List ℕ) (ok : check first n t ≡ Passed) (round : ℕ
         skip-cell e = by-choice ∙ rw (le-ltb p (records first t) h, e)
 
         pub indirect-cell : directSkip n (vertices first t) round (leader n round) ≡ false
-            → cell (decisionAt ds s) ≡ cell (indirect (document01 n) n (vertices first t) s (anchor (drop (round + 2) ds)))
+            → cell (decisionAt ds s) ≡ cell (indirect (boxSetting n) n (vertices first t) s (anchor (drop (round + 2) ds)))
         unfolding other
         indirect-cell e = by-choice ∙ rw (le-ltb p (records first t) h, e)
 
-pub indirect-open : (n : ℕ) (vs : List Vertex) (s : ℕ) (d : Decision ℕ) → d ≡ undecided → 0 ≡ cell (indirect (document01 n) n vs s d)
+pub indirect-open : (n : ℕ) (vs : List Vertex) (s : ℕ) (d : Decision ℕ) → d ≡ undecided → 0 ≡ cell (indirect (boxSetting n) n vs s d)
 unfolding indirect
 indirect-open n vs s d e = rw e
 
 pub indirect-through : (n : ℕ) (vs : List Vertex) (s a : ℕ) (d : Decision ℕ) → d ≡ committed a
-    → cell (throughAnchor (document01 n) n vs s a) ≡ cell (indirect (document01 n) n vs s d)
+    → cell (throughAnchor (boxSetting n) n vs s a) ≡ cell (indirect (boxSetting n) n vs s d)
 unfolding indirect
 indirect-through n vs s a d e = rw e
 
@@ -374,18 +374,18 @@ indirect-through n vs s a d e = rw e
 -- The cells from s on hold the decisions of their slots; those past the highest round are as before.
 pub record CellsFrom (n : ℕ) (vs : List Vertex) (s : ℕ) (old new : List ℕ) : Type 0 where
   pub same-length : length new ≡ length old
-  pub decided : (u : ℕ) → s ≤ u → u < highest vs → getD new u 0 ≡ cell (decisionAt (decisions (document01 n) n vs) u)
+  pub decided : (u : ℕ) → s ≤ u → u < highest vs → getD new u 0 ≡ cell (decisionAt (decisions (boxSetting n) n vs) u)
   pub kept : (u : ℕ) → highest vs ≤ u → getD new u 0 ≡ getD old u 0
 
 module _ (n : ℕ) (vs : List Vertex) (old : List ℕ) where
   abbrev all : List (Decision ℕ)
-  all = decisions (document01 n) n vs
+  all = decisions (boxSetting n) n vs
 
   pub cells-start : CellsFrom n vs (highest vs) old old
   cells-start = record { same-length = refl; decided = λ u l h. absurd (omega arith); kept = λ u l. refl }
 
   module _ (fits : highest vs ≤ length old) where
-    pub cells-next : (round c : ℕ) (m : List ℕ) → 0 < round → round ≤ highest vs → c ≡ cell (decisionAt (decisions (document01 n) n vs) (round - 1)) → CellsFrom n vs round old m
+    pub cells-next : (round c : ℕ) (m : List ℕ) → 0 < round → round ≤ highest vs → c ≡ cell (decisionAt (decisions (boxSetting n) n vs) (round - 1)) → CellsFrom n vs round old m
         → CellsFrom n vs (round - 1) old (set m (round - 1) c)
     cells-next round c m pos low e C = record {
       same-length = length-set m (round - 1) c ∙ C .same-length;
@@ -393,20 +393,20 @@ module _ (n : ℕ) (vs : List Vertex) (old : List ℕ) where
       kept = λ u l. getD-set-other m (round - 1) u c 0 (λ z. omega arith) ∙ C .kept u l;
     }
       where
-        here : (u : ℕ) → u ≡ round - 1 → getD (set m (round - 1) c) u 0 ≡ cell (decisionAt (decisions (document01 n) n vs) u)
+        here : (u : ℕ) → u ≡ round - 1 → getD (set m (round - 1) c) u 0 ≡ cell (decisionAt (decisions (boxSetting n) n vs) u)
         here u z = rw z (getD-set-same m (round - 1) c 0 (omega (arith, C .same-length)) ∙ e)
 
-        there : (u : ℕ) → round - 1 ≤ u → u < highest vs → u ≢ round - 1 → getD (set m (round - 1) c) u 0 ≡ cell (decisionAt (decisions (document01 n) n vs) u)
+        there : (u : ℕ) → round - 1 ≤ u → u < highest vs → u ≢ round - 1 → getD (set m (round - 1) c) u 0 ≡ cell (decisionAt (decisions (boxSetting n) n vs) u)
         there u l h z = getD-set-other m (round - 1) u c 0 z ∙ C .decided u (omega (arith, z)) h
 
-    pub cells-end : (m : List ℕ) → CellsFrom n vs 0 old m → m ≡ writtenOver (map cell (decisions (document01 n) n vs)) old
+    pub cells-end : (m : List ℕ) → CellsFrom n vs 0 old m → m ≡ writtenOver (map cell (decisions (boxSetting n) n vs)) old
     cells-end m C = ext-getD 0 m (writtenOver new old) (C .same-length ∙ sym whole) (λ i l. by-test (ltb i (highest vs)) (λ b. front i (ltb-true i (highest vs) b)) (λ b. back i (ltb-false i (highest vs) b)))
       where
         new : List ℕ
         new = map cell all
 
         size : length new ≡ highest vs
-        size = length-map all cell ∙ decisions-length (document01 n) n vs
+        size = length-map all cell ∙ decisions-length (boxSetting n) n vs
 
         whole : length (writtenOver new old) ≡ length old
         whole = length-append new (drop (length new) old) ∙ simp length-drop (omega (arith, size))

@@ -1,5 +1,4 @@
 pub mod Ranges
-pub mod Bytes
 pub mod Certified
 pub mod Tagging
 pub mod Commits

@@ -15,12 +15,11 @@ use Rattle.folds.proofs.Laws.{First}
 use Rattle.rules.specs.declared.Vertex.{Vertex}
 use Rattle.rules.specs.declared.Checked.the-variants.{Passed}
 use Rattle.rules.specs.Authors.{isCount}
-use Rattle.rules.specs.Record.{first, records, vertices, at, nameOf, below}
+use Rattle.rules.specs.Record.{first, records, vertices, at, nameOf, below, named}
 use Rattle.rules.specs.Check.{roundAbove, checkRecord, check}
 use Rattle.rules.proofs.Records.{vertices-at}
 use Rattle.rules.proofs.Refusals.{when-passed, then-both, each-passed}
 use Rattle.rules.proofs.Accepted.{accepted}
-use Rattle.table.specs.Named.{named}
 use Rattle.table.specs.Search.{nameAt}
 use Rattle.table.proofs.Finds.{falls, place-first, rise-all}
 use Rattle.decide.specs.Range.{startOf}

@@ -18,7 +18,7 @@ use Rattle.folds.proofs.Laws.{any-witness, any-intro, first-by}
 use Rattle.rules.specs.declared.Name.{Name}
 use Rattle.rules.specs.declared.Vertex.{Vertex}
 use Rattle.rules.specs.declared.Checked.the-variants.{Passed}
-use Rattle.rules.specs.Record.{first, decode, records, vertices, at, nameOf, entry, entryName, below, find}
+use Rattle.rules.specs.Record.{first, decode, records, vertices, at, nameOf, entry, entryName, below, find, named}
 use Rattle.rules.specs.Check.{check}
 use Rattle.rules.specs.Support.{references}
 use Rattle.rules.specs.History.{Reaches, itself, onward, history}
@@ -28,7 +28,6 @@ use Rattle.rules.proofs.Accepted.{Accepted, accepted, find-at, vertexOf-at, pos
 use Rattle.rules.proofs.Support.{references-is, is-references, references-entry, references-earlier}
 use Rattle.rules.proofs.History.{Follows, ReferencesIn, reached-at, history-length, history-is}
 use Rattle.table.specs.Search.{nameAt, placeOf, findBelow}
-use Rattle.table.specs.Named.{named}
 use Rattle.table.proofs.Names.{name-at, record-part}
 use Rattle.table.proofs.Earlier.{entry-named}
 use Rattle.table.proofs.Search.{Falls, halves-first, found-here}

@@ -7,9 +7,8 @@ use lib.Dec.{ltb, eqb}
 use lib.ListN.{length, getD}
 use Rattle.folds.specs.Folds.{_and_, firstTo, tabulate}
 use Rattle.rules.specs.declared.Vertex.{Vertex}
-use Rattle.rules.specs.Record.{at, entry, vertexOf}
+use Rattle.rules.specs.Record.{at, entry, vertexOf, named}
 use Rattle.rules.specs.Support.{certifies}
-use Rattle.table.specs.Named.{named}
 
 -- Entry i of the list: the mark that the vertex of (round, i, refs i) holds for the leader. 0 if there is none, and from n on.
 unfoldable pub backs : ℕ → List Vertex → List ℕ → (round leader : ℕ) → List ℕ

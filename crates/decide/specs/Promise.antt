@@ -10,17 +10,17 @@ use Rattle.rules.specs.Record.{first, records, vertices}
 use Rattle.rules.specs.Refusals.{_when_, _then_}
 use Rattle.rules.specs.Check.{check}
 use Rattle.rules.specs.Decision.{cell}
-use Rattle.rules.specs.Decide.{document01, decisions}
+use Rattle.rules.specs.Decide.{boxSetting, decisions}
 use Rattle.rules.specs.Settlement.{Buffers, tooShort, writtenOver}
-use Rattle.decide.specs.Work.{bytesOver}
+use Rattle.folds.specs.Folds.{bytesOver}
 
 -- The table's refusal, or else that of what is lent for its settlement.
 abbrev pub lentCheck : (n : ℕ) (t : List ℕ) → Buffers → Checked
-lentCheck n t b = check first n t then Lent when tooShort (document01 n) (vertices first t) b
+lentCheck n t b = check first n t then Lent when tooShort (boxSetting n) (vertices first t) b
 
 -- Every decision in its cell; a refusal changes nothing.
 unfoldable pub cellsAfter : Checked → (n : ℕ) (t cells : List ℕ) → List ℕ
-cellsAfter Passed n t cells = writtenOver (map cell (decisions (document01 n) n (vertices first t))) cells
+cellsAfter Passed n t cells = writtenOver (map cell (decisions (boxSetting n) n (vertices first t))) cells
 cellsAfter (Refused r) n t cells = cells
 
 -- Nothing is written yet: the bytes of the records are 0.

@@ -2,8 +2,7 @@
 -- Assumes nothing.
 use Prim.Native.Nat.{ℕ}
 use mathlib.Core.List.{List}
-use Rattle.rules.specs.Record.{first, records}
-use Rattle.table.specs.Named.{named}
+use Rattle.rules.specs.Record.{first, records, named}
 use Rattle.table.specs.Search.{placeOf}
 
 abbrev pub startOf : List ℕ → (round author : ℕ) → ℕ

@@ -11,10 +11,6 @@ use Rattle.folds.specs.Folds.{_and_, countTo, anyTo, tabulate}
 use Rattle.rules.specs.declared.Vertex.{Vertex}
 use Rattle.rules.specs.Record.{at}
 
--- The first k bytes are what f gives, the rest is as before.
-unfoldable pub bytesOver : (ℕ → ℕ) → ℕ → List ℕ → List ℕ
-bytesOver f k old = tabulate f k ++ drop k old
-
 abbrev pub historyAt : List ℕ → ℕ → ℕ
 historyAt m q = getD m q 0 / 128
 

@@ -3,7 +3,7 @@ ghost use mathlib.Core.Path.{_≡_};
 ghost use Prim.Native.Nat.{_≤_};
 ghost use lib.ListN.{length};
 ghost use Rattle.rules.specs.Settlement.{lent};
-ghost use Rattle.decide.specs.Work.{bytesOver};
+ghost use Rattle.folds.specs.Folds.{bytesOver};
 ghost use Rattle.decide.specs.Promise.{DecidesTo};
 use record::RECORD;
 use rules::Checked;

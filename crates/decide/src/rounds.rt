@@ -10,7 +10,7 @@ ghost use Rattle.rules.specs.Authors.{leader};
 ghost use Rattle.rules.specs.Record.{first, records, vertices};
 ghost use Rattle.rules.specs.Check.{check};
 ghost use Rattle.rules.specs.Decision.{cell};
-ghost use Rattle.rules.specs.Decide.{document01, highest, anchor, indirect, decisions, decisionAt, throughAnchor};
+ghost use Rattle.rules.specs.Decide.{boxSetting, highest, anchor, indirect, decisions, decisionAt, throughAnchor};
 ghost use Rattle.rules.specs.Settlement.{writtenOver};
 ghost use Rattle.decide.specs.Range.{startOf};
 ghost use Rattle.decide.specs.Cells.{stopAt, Walked};
@@ -76,7 +76,7 @@ fn through_anchor(n: u8, table: &[u8], round: u32, a: usize, walk: Walk, marks: 
     requires { ⌜ records first (now table) ≤ length (now marks) ⌝ }
     requires { ⌜ Walked (vertices first (now table)) (walk .anchor) (walk .done) (now marks) ⌝ }
     ensures { λ r. ⌜ length (now (marks .exit)) ≡ length (now (marks .entry)) ⌝ }
-    ensures { λ r. ⌜ r .cell ≡ cell (throughAnchor (document01 n) n (vertices first (now (table .entry))) (round - 1) a) ⌝ }
+    ensures { λ r. ⌜ r .cell ≡ cell (throughAnchor (boxSetting n) n (vertices first (now (table .entry))) (round - 1) a) ⌝ }
     ensures { λ r. ⌜ Walked (vertices first (now (table .entry))) (r .walk .anchor) (r .walk .done) (now (marks .exit)) ⌝ }
 {
     let leader = leader_of(n, round);
@@ -102,11 +102,11 @@ fn decide_indirect(
     requires { ⌜ 0 < round ⌝ }
     requires { ⌜ round ≤ highest (vertices first (now table)) ⌝ }
     requires { ⌜ highest (vertices first (now table)) ≤ length (now cells) ⌝ }
-    requires { ⌜ ((t : ℕ) → round ≤ t → t < highest (vertices first (now table)) → getD (now cells) t 0 ≡ cell (decisionAt (decisions (document01 n) n (vertices first (now table))) t)) ⌝ }
+    requires { ⌜ ((t : ℕ) → round ≤ t → t < highest (vertices first (now table)) → getD (now cells) t 0 ≡ cell (decisionAt (decisions (boxSetting n) n (vertices first (now table))) t)) ⌝ }
     requires { ⌜ records first (now table) ≤ length (now marks) ⌝ }
     requires { ⌜ Walked (vertices first (now table)) (walk .anchor) (walk .done) (now marks) ⌝ }
     ensures { λ r. ⌜ length (now (marks .exit)) ≡ length (now (marks .entry)) ⌝ }
-    ensures { λ r. ⌜ r .cell ≡ cell (indirect (document01 n) n (vertices first (now (table .entry))) (round - 1) (anchor (drop (round + 2) (decisions (document01 n) n (vertices first (now (table .entry))))))) ⌝ }
+    ensures { λ r. ⌜ r .cell ≡ cell (indirect (boxSetting n) n (vertices first (now (table .entry))) (round - 1) (anchor (drop (round + 2) (decisions (boxSetting n) n (vertices first (now (table .entry))))))) ⌝ }
     ensures { λ r. ⌜ Walked (vertices first (now (table .entry))) (r .walk .anchor) (r .walk .done) (now (marks .exit)) ⌝ }
 {
     let top = highest_of(table) as usize;
@@ -134,11 +134,11 @@ fn decide_round(
     requires { ⌜ 0 < round ⌝ }
     requires { ⌜ round ≤ highest (vertices first (now table)) ⌝ }
     requires { ⌜ highest (vertices first (now table)) ≤ length (now cells) ⌝ }
-    requires { ⌜ ((t : ℕ) → round ≤ t → t < highest (vertices first (now table)) → getD (now cells) t 0 ≡ cell (decisionAt (decisions (document01 n) n (vertices first (now table))) t)) ⌝ }
+    requires { ⌜ ((t : ℕ) → round ≤ t → t < highest (vertices first (now table)) → getD (now cells) t 0 ≡ cell (decisionAt (decisions (boxSetting n) n (vertices first (now table))) t)) ⌝ }
     requires { ⌜ records first (now table) ≤ length (now marks) ⌝ }
     requires { ⌜ Walked (vertices first (now table)) (walk .anchor) (walk .done) (now marks) ⌝ }
     ensures { λ r. ⌜ length (now (marks .exit)) ≡ length (now (marks .entry)) ⌝ }
-    ensures { λ r. ⌜ r .cell ≡ cell (decisionAt (decisions (document01 n) n (vertices first (now (table .entry)))) (round - 1)) ⌝ }
+    ensures { λ r. ⌜ r .cell ≡ cell (decisionAt (decisions (boxSetting n) n (vertices first (now (table .entry)))) (round - 1)) ⌝ }
     ensures { λ r. ⌜ Walked (vertices first (now (table .entry))) (r .walk .anchor) (r .walk .done) (now (marks .exit)) ⌝ }
 {
     let k = table.len() / RECORD;
@@ -161,7 +161,7 @@ pub(crate) fn decide_all(n: u8, table: &[u8], cells: &mut [u32], marks: &mut [u8
     requires { ⌜ check first n (now table) ≡ Passed ⌝ }
     requires { ⌜ highest (vertices first (now table)) ≤ length (now cells) ⌝ }
     requires { ⌜ records first (now table) ≤ length (now marks) ⌝ }
-    ensures { λ r. ⌜ now (cells .exit) ≡ writtenOver (map cell (decisions (document01 n) n (vertices first (now (table .entry))))) (now (cells .entry)) ⌝ }
+    ensures { λ r. ⌜ now (cells .exit) ≡ writtenOver (map cell (decisions (boxSetting n) n (vertices first (now (table .entry))))) (now (cells .entry)) ⌝ }
     ensures { λ r. ⌜ length (now (marks .exit)) ≡ length (now (marks .entry)) ⌝ }
 {
     let mut walk = Walk {

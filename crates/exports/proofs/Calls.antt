@@ -19,7 +19,7 @@ use Rattle.rules.specs.Record.{first}
 use Rattle.rules.specs.Refusals.{numberOf}
 use Rattle.rules.specs.Lookup.{lookupBegin, lookupLength}
 use Rattle.rules.proofs.Refusals.{refusal-unique}
-use Rattle.lookup.specs.Part.{PartOf}
+use Rattle.record.specs.Part.{PartOf}
 use Rattle.exports.specs.declared.Answer.{Answer}
 use Rattle.exports.specs.declared.Part.{Part}
 use Rattle.exports.specs.declared.SettledNumbers.{SettledNumbers}

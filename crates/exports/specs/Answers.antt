@@ -15,7 +15,7 @@ use Rattle.rules.specs.declared.Outcome.the-variants as outcome
 use Rattle.rules.specs.Record.{Edition, first}
 use Rattle.rules.specs.Refusals.{numberOf, positionOf}
 use Rattle.rules.specs.Lookup.{lookupBegin, lookupLength}
-use Rattle.rules.specs.Decide.{document01}
+use Rattle.rules.specs.Decide.{boxSetting}
 use Rattle.rules.specs.Settlement.{Buffers, Settles, settle}
 use Rattle.exports.specs.declared.Answer.{Answer}
 use Rattle.exports.specs.declared.Part.{Part}
@@ -61,7 +61,7 @@ settledAs (outcome.Refused r) = record {
 
 -- What an exported settlement promises: the outcome as numbers, and the buffers as `SettlesTo` has them.
 pub record SettlesAs (n : ℕ) (t : List ℕ) (before : Buffers) (r : SettledNumbers) (after : Buffers) : Type 0 where
-  pub numbers : r ≡ settledAs (settle (document01 n) first n t before .outcome)
-  pub cells : after .cells ≡ settle (document01 n) first n t before .buffers .cells
-  pub order : after .order ≡ settle (document01 n) first n t before .buffers .order
-  pub taken : after .taken ≡ settle (document01 n) first n t before .buffers .taken
+  pub numbers : r ≡ settledAs (settle (boxSetting n) first n t before .outcome)
+  pub cells : after .cells ≡ settle (boxSetting n) first n t before .buffers .cells
+  pub order : after .order ≡ settle (boxSetting n) first n t before .buffers .order
+  pub taken : after .taken ≡ settle (boxSetting n) first n t before .buffers .taken

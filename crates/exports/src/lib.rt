@@ -4,7 +4,7 @@ ghost use mathlib.Core.Path.{_≡_};
 ghost use Rattle.rules.specs.Record.{first};
 ghost use Rattle.rules.specs.Check.{check as checked};
 ghost use Rattle.rules.specs.Lookup.{lookupAnswer};
-ghost use Rattle.table.specs.Named.{named};
+ghost use Rattle.rules.specs.Record.{named};
 ghost use Rattle.rules.specs.Settlement.{lent};
 ghost use Rattle.exports.specs.Answers.{refusalAs, checkedAs, lookupAs, partAs, settledAs, SettlesAs};
 use record::RECORD;

@@ -3,3 +3,4 @@ pub mod Laws
 pub mod Lists
 pub mod Quorum
 pub mod Rising
+pub mod Over

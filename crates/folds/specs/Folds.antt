@@ -5,6 +5,7 @@ use Prim.Native.Nat.{ℕ, zero, suc, _+_}
 use mathlib.Core.Bool.{Bool, true, false, cond}
 use mathlib.Core.List.{List, [], _∷_, _++_}
 use lib.Dec.{ltb, eqb}
+use lib.ListN.{drop}
 
 infixr 35 _and_
 infixr 30 _or_
@@ -57,3 +58,7 @@ tabulate f (suc k) = tabulate f k ++ f k ∷ []
 unfoldable pub member : ℕ → List ℕ → Bool
 member x [] = false
 member x (y ∷ ys) = eqb x y or member x ys
+
+-- the first k of a list are what f gives, the rest is as before
+unfoldable pub bytesOver : (ℕ → ℕ) → ℕ → List ℕ → List ℕ
+bytesOver f k old = tabulate f k ++ drop k old

@@ -2,8 +2,8 @@
 ghost use mathlib.Core.Path.{_≡_};
 ghost use Rattle.rules.specs.Record.{first};
 ghost use Rattle.rules.specs.Lookup.{lookupAnswer, lookupBegin, lookupLength};
-ghost use Rattle.table.specs.Named.{named};
-ghost use Rattle.lookup.specs.Part.{PartOf};
+ghost use Rattle.rules.specs.Record.{named};
+ghost use Rattle.record.specs.Part.{PartOf};
 use record::RECORD;
 use rules::Checked;
 use rules::LookupAnswer;

@@ -3,6 +3,11 @@
 -- Assumes nothing.
 use mathlib.Core.Path.{_≡_, sym, _∙_}
 use Rattle.rules.proofs.Only.{Only}
+use Rattle.record.specs.Part.{SamePart}
+use Rattle.record.proofs.records_of.Kinds as records-of-kinds
+use Rattle.record.proofs.records_of.Reads as records-of
+use Rattle.record.proofs.part.Kinds as part-kinds
+use Rattle.record.proofs.part.Reads as part
 use Rattle.record.proofs.byte_at.Kinds as byte-at-kinds
 use Rattle.record.proofs.byte_at.Reads as byte-at
 use Rattle.record.proofs.u16_at.Kinds as u16-at-kinds
@@ -19,6 +24,12 @@ use Rattle.record.proofs.name_of.Kinds as name-of-kinds
 use Rattle.record.proofs.name_of.Reads as name-of
 use Rattle.record.proofs.entry_of.Kinds as entry-of-kinds
 use Rattle.record.proofs.entry_of.Reads as entry-of
+
+pub records-of-unique : Only 1 records-of-kinds.ps records-of-kinds.r (λ κs x e y f. x ≡ y) records-of.Post
+records-of-unique κs a x y e f p q = p ∙ sym q
+
+pub part-unique : Only 1 part-kinds.ps part-kinds.r (λ κs x e y f. SamePart x y) part.Post
+part-unique κs a x y e f p q = record { block = p .block ∙ sym (q .block); place = p .place ∙ sym (q .place); bytes = p .bytes ∙ sym (q .bytes) }
 
 pub byte-at-unique : Only 1 byte-at-kinds.ps byte-at-kinds.r (λ κs x e y f. x ≡ y) byte-at.Post
 byte-at-unique κs a x y e f p q = p ∙ sym q

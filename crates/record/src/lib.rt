@@ -3,7 +3,8 @@ ghost use mathlib.Core.Path.{_≡_};
 ghost use Prim.Native.Nat.{_+_, _-_, _*_, min};
 ghost use lib.ListN.{getD, drop};
 ghost use Rattle.record.specs.Copy.{copyOf};
-ghost use Rattle.rules.specs.Record.{number, first, decode as decoded, sumOf, nameOf, entry};
+ghost use Rattle.record.specs.Part.{RecordPart};
+ghost use Rattle.rules.specs.Record.{number, first, records, decode as decoded, sumOf, nameOf, entry};
 use rules::Name;
 use rules::Vertex;
 
@@ -61,6 +62,30 @@ fn rest(b: &[u8], i: usize) -> &[u8]
     }
     &b[b.len()..]
 }
+
+// ---- the records of a table
+
+// How many whole records a table has.
+pub fn records_of(table: &[u8]) -> usize
+    ensures { λ r. ⌜ r ≡ records first (now (table .entry)) ⌝ }
+{
+    table.len() / RECORD
+}
+
+// The bytes of the record at position p, in the caller's table: no copy. Past the last whole record what is left of the table, and past that nothing.
+pub fn part(table: &[u8], p: usize) -> &[u8]
+    ensures { λ r. ⌜ RecordPart first (table .entry) p r ⌝ }
+{
+    if p < table.len() / RECORD {
+        return &table[RECORD * p..RECORD * p + RECORD];
+    }
+    if p == table.len() / RECORD {
+        return &table[RECORD * p..];
+    }
+    &table[table.len()..]
+}
+
+// ---- fields
 
 // Byte i.
 pub fn byte_at(b: &[u8], i: usize) -> u8

@@ -10,7 +10,7 @@ use Rattle.rules.specs.declared.Refusal.the-variants.{Input}
 use Rattle.rules.specs.declared.Outcome.the-variants.{Refused}
 use Rattle.rules.specs.Refusals.{_when_, _then_}
 use Rattle.rules.specs.Record.{first}
-use Rattle.rules.specs.Decide.{document01}
+use Rattle.rules.specs.Decide.{boxSetting}
 use Rattle.rules.specs.Settlement.{Buffers, Settles, settleIf, settle}
 use Rattle.rules.specs.Program.{holds}
 use Rattle.settlement.specs.Promise.{SettlesTo}
@@ -22,7 +22,7 @@ unfolding answered checked settleIf _when_ _then_
 long input b h = rw (lt-ltb holds (length input) h)
 
 -- else the settlement does
-fits : (input : List ℕ) (b : Buffers) → length input ≤ holds → answered input b ≡ settle (document01 (authorsIn input)) first (authorsIn input) (tableIn input) b
+fits : (input : List ℕ) (b : Buffers) → length input ≤ holds → answered input b ≡ settle (boxSetting (authorsIn input)) first (authorsIn input) (tableIn input) b
 unfolding answered checked settle _when_ _then_
 fits input b h = rw (le-ltb holds (length input) h)
 

@@ -15,7 +15,7 @@ use Rattle.rules.specs.declared.Checked.the-variants.{Passed, Refused}
 use Rattle.rules.specs.Refusals.{_when_, _then_}
 use Rattle.rules.specs.Record.{first, vertices}
 use Rattle.rules.specs.Check.{check}
-use Rattle.rules.specs.Decide.{document01}
+use Rattle.rules.specs.Decide.{boxSetting}
 use Rattle.rules.specs.Settlement.{Buffers, tooShort}
 use Rattle.rules.specs.Program.{lines, holds, printed}
 use Rattle.rules.proofs.Refusals.{when-no}
@@ -26,7 +26,7 @@ use Rattle.record_box.specs.Answer.{authorsIn, tableIn, checked, answere
 use Rattle.record_box.proofs.Rounds.{Held, long-enough}
 
 -- After a table passes, its memory is long enough: 10 is never given.
-never-lent : (n : ℕ) (t : List ℕ) (b : Buffers) (c : Checked) → check first n t ≡ c → length t ≤ 65412 → Held b → c then Lent when tooShort (document01 n) (vertices first t) b ≡ c
+never-lent : (n : ℕ) (t : List ℕ) (b : Buffers) (c : Checked) → check first n t ≡ c → length t ≤ 65412 → Held b → c then Lent when tooShort (boxSetting n) (vertices first t) b ≡ c
 unfolding _then_
 never-lent n t b Passed e l h = when-no Lent _ (long-enough n t b (accepted first n t e) l h)
 never-lent n t b (Refused r) e l h = refl
@@ -48,4 +48,4 @@ checked-is input b h = by-test (ltb holds (length input)) long fits
 pub prints : (input : List ℕ) (b : Buffers) → Held b
     → output (answered input b .outcome) (tableIn input) (answered input b .buffers .cells) (answered input b .buffers .order) ≡ printed input
 unfolding answered printed
-prints input b h = output-is (checked input b) (authorsIn input) (tableIn input) b ∙ ap (λ c. lines c (document01 (authorsIn input)) (authorsIn input) (vertices first (tableIn input))) (checked-is input b h)
+prints input b h = output-is (checked input b) (authorsIn input) (tableIn input) b ∙ ap (λ c. lines c (boxSetting (authorsIn input)) (authorsIn input) (vertices first (tableIn input))) (checked-is input b h)

@@ -13,7 +13,7 @@ use Rattle.folds.proofs.Tests.{by-test, not-true, or-false}
 use Rattle.folds.proofs.Laws.{count-witness}
 use Rattle.rules.specs.declared.Vertex.{Vertex}
 use Rattle.rules.specs.Record.{first, records, vertices, noVertex, at, entryName, refers, find}
-use Rattle.rules.specs.Decide.{document01, highest}
+use Rattle.rules.specs.Decide.{boxSetting, highest}
 use Rattle.rules.specs.Settlement.{Buffers, tooShort}
 use Rattle.rules.proofs.Records.{vertices-length}
 use Rattle.rules.proofs.Accepted.{Accepted, enough, earlier, entry-vertex}
@@ -50,7 +50,7 @@ pub record Held (b : Buffers) : Type 0 where
   pub order : 474 ≤ length (b .order)
   pub taken : 474 ≤ length (b .taken)
 
-pub long-enough : (n : ℕ) (t : List ℕ) (b : Buffers) → Accepted n (vertices first t) → length t ≤ 65412 → Held b → tooShort (document01 n) (vertices first t) b ≡ false
+pub long-enough : (n : ℕ) (t : List ℕ) (b : Buffers) → Accepted n (vertices first t) → length t ≤ 65412 → Held b → tooShort (boxSetting n) (vertices first t) b ≡ false
 unfolding tooShort
 long-enough n t b A l h =
     let vs = vertices first t in

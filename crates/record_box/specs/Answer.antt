@@ -11,7 +11,7 @@ use Rattle.rules.specs.declared.Checked.{Checked}
 use Rattle.rules.specs.Refusals.{_when_, _then_}
 use Rattle.rules.specs.Record.{first, vertices}
 use Rattle.rules.specs.Check.{check}
-use Rattle.rules.specs.Decide.{document01}
+use Rattle.rules.specs.Decide.{boxSetting}
 use Rattle.rules.specs.Settlement.{Buffers, Settles, tooShort, settleIf}
 use Rattle.rules.specs.Program.{holds}
 
@@ -27,11 +27,11 @@ unfoldable pub checked : List ℕ → Buffers → Checked
 checked input b =
     Input when ltb holds (length input)
     then check first (authorsIn input) (tableIn input)
-    then Lent when tooShort (document01 (authorsIn input)) (vertices first (tableIn input)) b
+    then Lent when tooShort (boxSetting (authorsIn input)) (vertices first (tableIn input)) b
 
 -- The outcome, and what the memory holds then.
 unfoldable pub answered : List ℕ → Buffers → Settles
-answered input b = settleIf (checked input b) (document01 (authorsIn input)) (authorsIn input) (vertices first (tableIn input)) b
+answered input b = settleIf (checked input b) (boxSetting (authorsIn input)) (authorsIn input) (vertices first (tableIn input)) b
 
 pub record Answers (input : List ℕ) (before : Buffers) (r : Settlement) (after : Buffers) : Type 0 where
   pub outcome : r .outcome ≡ answered input before .outcome

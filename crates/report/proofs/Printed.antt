@@ -13,7 +13,7 @@ use Rattle.rules.specs.declared.Checked.{Checked}
 use Rattle.rules.specs.declared.Checked.the-variants.{Passed, Refused}
 use Rattle.rules.specs.Record.{first, vertices, at}
 use Rattle.rules.specs.Decision.{Decision, undecided, skipped, committed, cell}
-use Rattle.rules.specs.Decide.{document01, highest, decisions, decisionAt}
+use Rattle.rules.specs.Decide.{boxSetting, highest, decisions, decisionAt}
 use Rattle.rules.specs.Order.{writeFrom}
 use Rattle.rules.specs.Settlement.{Buffers, writtenOver, countsOf, settled, settleIf}
 use Rattle.rules.specs.Program.{lineS, lineR, lineV, linesR, linesV, lines}
@@ -107,12 +107,12 @@ module _ (c : Counts) (t cells order : List ℕ) (ds : List (Decision ℕ)) (ps 
 
 -- What a settlement gives and leaves, printed line by line, is what the program prints where the same check refuses or passes.
 pub output-is : (k : Checked) (n : ℕ) (t : List ℕ) (b : Buffers)
-    → output (settleIf k (document01 n) n (vertices first t) b .outcome) t (settleIf k (document01 n) n (vertices first t) b .buffers .cells) (settleIf k (document01 n) n (vertices first t) b .buffers .order)
-    ≡ lines k (document01 n) n (vertices first t)
+    → output (settleIf k (boxSetting n) n (vertices first t) b .outcome) t (settleIf k (boxSetting n) n (vertices first t) b .buffers .cells) (settleIf k (boxSetting n) n (vertices first t) b .buffers .order)
+    ≡ lines k (boxSetting n) n (vertices first t)
 unfolding settleIf settled countsOf lines output outputLine outputLines joined
 output-is (Refused r) n t b = refl
 output-is Passed n t b =
-    let ds = decisions (document01 n) n (vertices first t) in
-    let ps = writeFrom (document01 n .step) (vertices first t) [] ds in
+    let ds = decisions (boxSetting n) n (vertices first t) in
+    let ps = writeFrom (boxSetting n .step) (vertices first t) [] ds in
     output-settled (countsOf n (vertices first t) ds ps) t (writtenOver (map cell ds) (b .cells)) (writtenOver ps (b .order)) ds ps
-    (decisions-length (document01 n) n (vertices first t)) refl (cell-at ds (b .cells)) (place-at ps (b .order))
+    (decisions-length (boxSetting n) n (vertices first t)) refl (cell-at ds (b .cells)) (place-at ps (b .order))

@@ -9,7 +9,7 @@ use lib.ListN.{length}
 use Rattle.rules.specs.declared.Checked.the-variants.{Passed}
 use Rattle.rules.specs.Record.{first, sumOf, vertices}
 use Rattle.rules.specs.Check.{check}
-use Rattle.rules.specs.Decide.{document01}
+use Rattle.rules.specs.Decide.{boxSetting}
 use Rattle.rules.specs.Settlement.{tooShort, settled, settleIf, settle}
 use Rattle.rules.specs.Program.{holds, lines, printed}
 use Rattle.rules.proofs.Refusals.{then-passed, when-no}
@@ -18,13 +18,13 @@ use Rattle.rules.specs.Examples.{Hold, Answer, answer, nines, a1, a2, a3
 use Rattle.rules.specs.Open.{rules-open}
 
 -- The answer for a table that passes. What is printed and what is settled go through the same check, so that is computed once.
-passed : (t : List ℕ) (a : Answer) → check first 4 t ≡ Passed → ltb holds (length (4 ∷ t)) ≡ false → tooShort (document01 4) (vertices first t) nines ≡ false
-    → lines Passed (document01 4) 4 (vertices first t) ≡ a .prints → settled (document01 4) 4 (vertices first t) nines ≡ a .settles → answer t ≡ a
+passed : (t : List ℕ) (a : Answer) → check first 4 t ≡ Passed → ltb holds (length (4 ∷ t)) ≡ false → tooShort (boxSetting 4) (vertices first t) nines ≡ false
+    → lines Passed (boxSetting 4) 4 (vertices first t) ≡ a .prints → settled (boxSetting 4) 4 (vertices first t) nines ≡ a .settles → answer t ≡ a
 unfolding printed settle settleIf
 passed t a c h l e f =
     let prints = then-passed _ _ (when-no _ _ h) ∙ c in
     let fits = then-passed _ _ c ∙ when-no _ _ l in
-    λ i. record { prints = (ap (λ k. lines k (document01 4) 4 (vertices first t)) prints ∙ e) i; settles = (ap (λ k. settleIf k (document01 4) 4 (vertices first t) nines) fits ∙ f) i }
+    λ i. record { prints = (ap (λ k. lines k (boxSetting 4) 4 (vertices first t)) prints ∙ e) i; settles = (ap (λ k. settleIf k (boxSetting 4) 4 (vertices first t) nines) fits ∙ f) i }
 
 ex1 : answer p1 ≡ a1
 unfolding rules-open p1

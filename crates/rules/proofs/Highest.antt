@@ -18,7 +18,7 @@ use Rattle.rules.specs.Authors.{quorum, oneLeader}
 use Rattle.rules.specs.Record.{at}
 use Rattle.rules.specs.Decision.{Decision, undecided, skipped, committed}
 use Rattle.rules.specs.Support.{certifies, directCommit, directSkip, blank}
-use Rattle.rules.specs.Decide.{document01, highest, decisions, decisionAt}
+use Rattle.rules.specs.Decide.{boxSetting, highest, decisions, decisionAt}
 use Rattle.rules.specs.Order.{firstUndecided}
 use Rattle.rules.proofs.Names.{below-round}
 use Rattle.rules.proofs.Accepted.{Accepted, rising, round-pos}
@@ -56,23 +56,23 @@ module _ {n : ℕ} {vs : List Vertex} (A : Accepted n vs) where
       go (a, la, (p, l, ea, t)) = omega (arith, highest-most p l, blank-is (at vs p) r leader t .one-up)
 
   abbrev rounds : List (Decision ℕ)
-  rounds = decisions (document01 n) n vs
+  rounds = decisions (boxSetting n) n vs
 
   -- a round that is committed has records two rounds up
   pub committed-up : (s p : ℕ) → decisionAt rounds s ≡ committed p → s + 3 ≤ highest vs
-  committed-up s p e = go (because (document01 n) (one-later n) A s)
+  committed-up s p e = go (because (boxSetting n) (one-later n) A s)
     where
-      go : Because (document01 n) n vs s (decisionAt rounds s) → s + 3 ≤ highest vs
+      go : Because (boxSetting n) n vs s (decisionAt rounds s) → s + 3 ≤ highest vs
       go (direct q l i c k) = omega (arith, commit-up (at vs q) c, slot-is (oneLeader n) s (at vs q) i .at-round)
       go (skips b k) = absurd (skipped-apart e k)
       go (blocked t l f g k) = absurd (committed-decided e k)
-      go (through t a l f g k) = by-test (leb (highest vs) t) (λ h. absurd (committed-decided g (decisions-past (document01 n) n vs t (leb-true _ _ h)))) (λ h. omega (arith, leb-false (highest vs) t h))
+      go (through t a l f g k) = by-test (leb (highest vs) t) (λ h. absurd (committed-decided g (decisions-past (boxSetting n) n vs t (leb-true _ _ h)))) (λ h. omega (arith, leb-false (highest vs) t h))
 
   -- a round that is decided has records one round up
   pub decided-up : (s : ℕ) → (decisionAt rounds s ≡ undecided → ⊥) → s + 2 ≤ highest vs
-  decided-up s h = go (because (document01 n) (one-later n) A s)
+  decided-up s h = go (because (boxSetting n) (one-later n) A s)
     where
-      go : Because (document01 n) n vs s (decisionAt rounds s) → s + 2 ≤ highest vs
+      go : Because (boxSetting n) n vs s (decisionAt rounds s) → s + 2 ≤ highest vs
       go (direct q l i c k) = omega (arith, committed-up s q k)
       go (skips b k) = omega (arith, skip-up (s + 1) _ b)
       go (blocked t l f g k) = absurd (h k)
@@ -80,9 +80,9 @@ module _ {n : ℕ} {vs : List Vertex} (A : Accepted n vs) where
 
   -- the highest round is never decided
   pub highest-undecided : 0 < length vs → decisionAt rounds (highest vs - 1) ≡ undecided
-  highest-undecided h = open-or (because (document01 n) (one-later n) A (highest vs - 1)) refl
+  highest-undecided h = open-or (because (boxSetting n) (one-later n) A (highest vs - 1)) refl
     where
-      open-or : {d : Decision ℕ} → Because (document01 n) n vs (highest vs - 1) d → d ≡ decisionAt rounds (highest vs - 1) → d ≡ undecided
+      open-or : {d : Decision ℕ} → Because (boxSetting n) n vs (highest vs - 1) d → d ≡ decisionAt rounds (highest vs - 1) → d ≡ undecided
       open-or (blocked t l f g k) e = k
       open-or (direct q l i c k) e = absurd (omega (arith, highest-pos h, decided-up (highest vs - 1) (λ z. committed-decided k (e ∙ z))))
       open-or (skips b k) e = absurd (omega (arith, highest-pos h, decided-up (highest vs - 1) (λ z. skipped-decided k (e ∙ z))))
@@ -112,8 +112,8 @@ first-undecided-at r (suc s) (committed a ∷ ds) l e = omega (arith, first-unde
 
 -- the first undecided round of a table that has records is 1 to the highest
 pub first-undecided-range : {n : ℕ} {vs : List Vertex} → Accepted n vs → 0 < length vs
-    → (1 ≤ firstUndecided 1 (decisions (document01 n) n vs)) × (firstUndecided 1 (decisions (document01 n) n vs) ≤ highest vs)
+    → (1 ≤ firstUndecided 1 (decisions (boxSetting n) n vs)) × (firstUndecided 1 (decisions (boxSetting n) n vs) ≤ highest vs)
 first-undecided-range {n} {vs} A h =
-    let ds : List (Decision ℕ) = decisions (document01 n) n vs in
-    let within : highest vs - 1 < length ds = omega (arith, highest-pos A h, decisions-length (document01 n) n vs) in
+    let ds : List (Decision ℕ) = decisions (boxSetting n) n vs in
+    let within : highest vs - 1 < length ds = omega (arith, highest-pos A h, decisions-length (boxSetting n) n vs) in
     (first-undecided-low 1 ds, omega (arith, highest-pos A h, first-undecided-at 1 (highest vs - 1) ds within (highest-undecided A h)))

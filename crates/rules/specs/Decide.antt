@@ -19,9 +19,9 @@ pub record Setting : Type 0 where
   pub skip : SkipRule
   pub step : StepRule
 
--- The setting of document 01.
-abbrev pub document01 : ℕ → Setting
-document01 n = record { slots = oneLeader n; skip = directSkip; step = references }
+-- The setting of the box.
+abbrev pub boxSetting : ℕ → Setting
+boxSetting n = record { slots = oneLeader n; skip = directSkip; step = references }
 
 -- R, the highest round: that of the last record. An empty table has highest round 0.
 unfoldable pub highest : List Vertex → ℕ

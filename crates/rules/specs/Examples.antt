@@ -12,7 +12,7 @@ use Rattle.rules.specs.declared.Refusal.the-variants.{Sum, Fields, Risin
 use Rattle.rules.specs.declared.Counts.{Counts}
 use Rattle.rules.specs.declared.Outcome.the-variants.{Settled, Refused}
 use Rattle.rules.specs.Record.{first, sumOf}
-use Rattle.rules.specs.Decide.{document01}
+use Rattle.rules.specs.Decide.{boxSetting}
 use Rattle.rules.specs.Settlement.{Buffers, Settles, settle}
 use Rattle.rules.specs.Program.{bytesOf, printed}
 use Rattle.rules.specs.Tables.{unsummed, p1, p2, p3, p4, p5, p6, p7, p8, p9, p10, p11, p12, p13, p14}
@@ -28,7 +28,7 @@ pub record Answer : Type 0 where
   pub settles : Settles
 
 abbrev pub answer : List ℕ → Answer
-answer t = record { prints = printed (4 ∷ t); settles = settle (document01 4) first 4 t nines }
+answer t = record { prints = printed (4 ∷ t); settles = settle (boxSetting 4) first 4 t nines }
 
 -- the first places written, the rest of the 26 kept
 abbrev pub kept : List ℕ → List ℕ

@@ -16,7 +16,7 @@ use Rattle.rules.specs.Refusals.{numberOf, positionOf, _when_, _then_}
 use Rattle.rules.specs.Record.{first, vertices, at}
 use Rattle.rules.specs.Check.{check}
 use Rattle.rules.specs.Decision.{Decision, undecided, skipped, committed}
-use Rattle.rules.specs.Decide.{Setting, document01, decisions}
+use Rattle.rules.specs.Decide.{Setting, boxSetting, decisions}
 use Rattle.rules.specs.Order.{writeFrom}
 use Rattle.rules.specs.Settlement.{countsOf}
 
@@ -96,4 +96,4 @@ unfoldable pub printed : List ℕ → List ℕ
 printed input =
     let n = getD input 0 0 in
     let t = drop 1 input in
-    lines (Input when ltb holds (length input) then check first n t) (document01 n) n (vertices first t)
+    lines (Input when ltb holds (length input) then check first n t) (boxSetting n) n (vertices first t)

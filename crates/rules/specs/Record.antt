@@ -59,6 +59,10 @@ at vs p = getD vs p noVertex
 abbrev pub nameOf : Vertex → Name
 nameOf v = record { round = v .round; author = v .author; mark = v .mark }
 
+-- The name of those parts.
+abbrev pub named : (round author mark : ℕ) → Name
+named r a m = record { round = r; author = a; mark = m }
+
 -- Entry i holds the mark of the vertex of author i in the round before, or 0 for no reference.
 abbrev pub entry : Vertex → ℕ → ℕ
 entry v i = getD (v .refs) i 0

@@ -24,7 +24,7 @@ use Rattle.rules.proofs.Names.{Below, is-below, below-round, below-mark}
 use Rattle.rules.proofs.Records.{vertices-length, vertices-at}
 use Rattle.rules.proofs.Accepted.{Accepted, accepted, author-low, rising}
 use Rattle.table.proofs.Names.{record-part, name-at, lentPart}
-use Rattle.decide.proofs.Bytes.{or-last, set-tabulate}
+use Rattle.folds.proofs.Over.{or-last, set-tabulate}
 
 -- ---- a search from below
 

@@ -13,7 +13,7 @@ use lib.Dec.{ltb, eqb}
 use lib.ListN.{length, getD, drop, length-append, length-drop, drop-of-length-le}
 use lib.Seq.{drop-cons}
 use borrow.Author.Tests.{eqb-true, eq-eqb, ltb-true, ltb-false}
-use Rattle.folds.specs.Folds.{_and_, _or_, bit, countTo, filterTo, member}
+use Rattle.folds.specs.Folds.{_and_, _or_, bit, countTo, filterTo, member, bytesOver}
 use Rattle.folds.proofs.Tests.{by-test, not-both, failed, and-left, or-cases, or-left, or-right, both-ways}
 use Rattle.folds.proofs.Laws.{count-low, count-cut, count-same}
 use Rattle.folds.proofs.Lists.{filter-length, filter-sound, filter-complete, member-sound, member-complete, length-tabulate}
@@ -22,7 +22,7 @@ use Rattle.rules.specs.Record.{at, nameOf}
 use Rattle.rules.specs.Decision.{Decision, undecided, skipped, committed, cell}
 use Rattle.rules.specs.Support.{references}
 use Rattle.rules.specs.History.{StepRule, history}
-use Rattle.rules.specs.Decide.{document01, highest, decisions, decisionAt}
+use Rattle.rules.specs.Decide.{boxSetting, highest, decisions, decisionAt}
 use Rattle.rules.specs.Order.{notYet, writeFrom, order}
 use Rattle.rules.specs.Settlement.{writtenOver, takenBytes}
 use Rattle.rules.proofs.Accepted.{Accepted}
@@ -30,8 +30,7 @@ use Rattle.rules.proofs.Decide.{decisions-length, leads}
 use Rattle.rules.proofs.Highest.{one-later}
 use Rattle.settlement.specs.Write.{placesOver, written, Told, fresh, Led}
 use Rattle.decide.proofs.Sweeps.{history-size, history-past, history-low, history-step}
-use Rattle.decide.specs.Work.{bytesOver}
-use Rattle.decide.proofs.Bytes.{over-at, over-length, over-same, over-over, over-none}
+use Rattle.folds.proofs.Over.{over-at, over-length, over-same, over-over, over-none}
 use Rattle.settlement.proofs.Writing.{places-over, filter-same}
 
 -- ---- the slots that are left
@@ -121,7 +120,7 @@ count-or t u (suc k) = omega (arith, bit-or (t k) (u k), count-or t u k)
 
 pub record Upto (n : ℕ) (vs : List Vertex) (o m : List ℕ) (s count : ℕ) (o′ m′ : List ℕ) : Type 0 where
   pub so-far : List ℕ
-  pub rest : writeFrom references vs so-far (drop s (decisions (document01 n) n vs)) ≡ order (document01 n) n vs
+  pub rest : writeFrom references vs so-far (drop s (decisions (boxSetting n) n vs)) ≡ order (boxSetting n) n vs
   pub counted : count ≡ length so-far
   pub places : o′ ≡ writtenOver so-far o
   pub bytes : m′ ≡ bytesOver (λ q. bit (member q so-far)) (length vs) m
@@ -160,7 +159,7 @@ module _ {n : ℕ} {vs : List Vertex} {o m : List ℕ} {s count : ℕ} {o′ m�
   w = U .so-far
 
   abbrev ds : List (Decision ℕ)
-  ds = decisions (document01 n) n vs
+  ds = decisions (boxSetting n) n vs
 
   byte : (q : ℕ) → q < length vs → getD m′ q 0 ≡ bit (member q w)
   byte q lq = ap (λ b. getD b q 0) (U .bytes) ∙ over-at (λ i. bit (member i w)) (length vs) m q lq
@@ -182,7 +181,7 @@ module _ {n : ℕ} {vs : List Vertex} {o m : List ℕ} {s count : ℕ} {o′ m�
   pub upto-skip : s < highest vs → decisionAt ds s ≡ skipped → Upto n vs o m (s + 1) count o′ m′
   upto-skip l e = record {
     so-far = w;
-    rest = sym (rest-skip references vs w ds s (rw (decisions-length (document01 n) n vs) l) e) ∙ U .rest;
+    rest = sym (rest-skip references vs w ds s (rw (decisions-length (boxSetting n) n vs) l) e) ∙ U .rest;
     counted = U .counted;
     places = U .places;
     bytes = U .bytes;
@@ -249,7 +248,7 @@ module _ {n : ℕ} {vs : List Vertex} {o m : List ℕ} {s count : ℕ} {o′ m�
     pub upto-commit : Upto n vs o m (s + 1) count′ o″ m″
     upto-commit = record {
       so-far = next;
-      rest = sym (rest-commit references vs w ds s (rw (decisions-length (document01 n) n vs) l) a e) ∙ U .rest;
+      rest = sym (rest-commit references vs w ds s (rw (decisions-length (boxSetting n) n vs) l) a e) ∙ U .rest;
       counted = omega (arith, L .counted, U .counted, long);
       places = places-next;
       bytes = bytes-next;
@@ -269,30 +268,30 @@ unfolding bytesOver takenBytes
 taken-over w k old = rw (length-tabulate (λ q. bit (member q w)) k)
 
 pub record Ordered (n : ℕ) (vs : List Vertex) (o m : List ℕ) (count : ℕ) (o′ m′ : List ℕ) : Type 0 where
-  pub places : o′ ≡ writtenOver (order (document01 n) n vs) o
-  pub bytes : m′ ≡ writtenOver (takenBytes (order (document01 n) n vs) (length vs)) m
-  pub counted : count ≡ length (order (document01 n) n vs)
+  pub places : o′ ≡ writtenOver (order (boxSetting n) n vs) o
+  pub bytes : m′ ≡ writtenOver (takenBytes (order (boxSetting n) n vs) (length vs)) m
+  pub counted : count ≡ length (order (boxSetting n) n vs)
 
 module _ {n : ℕ} {vs : List Vertex} {o m₀ m : List ℕ} {s count : ℕ} {o′ m′ : List ℕ} (cleared : m ≡ bytesOver (λ q. 0) (length vs) m₀) (U : Upto n vs o m s count o′ m′) where
-  ordered : writeFrom references vs (U .so-far) (drop s (decisions (document01 n) n vs)) ≡ U .so-far → Ordered n vs o m₀ count o′ m′
+  ordered : writeFrom references vs (U .so-far) (drop s (decisions (boxSetting n) n vs)) ≡ U .so-far → Ordered n vs o m₀ count o′ m′
   ordered e =
-      let all : U .so-far ≡ order (document01 n) n vs = sym e ∙ U .rest in
+      let all : U .so-far ≡ order (boxSetting n) n vs = sym e ∙ U .rest in
       record {
         places = U .places ∙ ap (λ x. writtenOver x o) all;
-        bytes = U .bytes ∙ ap (bytesOver _ (length vs)) cleared ∙ over-over _ (length vs) m₀ _ ∙ ap (λ x. bytesOver (λ q. bit (member q x)) (length vs) m₀) all ∙ taken-over (order (document01 n) n vs) (length vs) m₀;
+        bytes = U .bytes ∙ ap (bytesOver _ (length vs)) cleared ∙ over-over _ (length vs) m₀ _ ∙ ap (λ x. bytesOver (λ q. bit (member q x)) (length vs) m₀) all ∙ taken-over (order (boxSetting n) n vs) (length vs) m₀;
         counted = U .counted ∙ ap length all;
       }
 
   -- the next slot is undecided
-  pub upto-stop : s < highest vs → decisionAt (decisions (document01 n) n vs) s ≡ undecided → Ordered n vs o m₀ count o′ m′
-  upto-stop l e = ordered (rest-stop references vs (U .so-far) (decisions (document01 n) n vs) s (rw (decisions-length (document01 n) n vs) l) e)
+  pub upto-stop : s < highest vs → decisionAt (decisions (boxSetting n) n vs) s ≡ undecided → Ordered n vs o m₀ count o′ m′
+  upto-stop l e = ordered (rest-stop references vs (U .so-far) (decisions (boxSetting n) n vs) s (rw (decisions-length (boxSetting n) n vs) l) e)
 
   -- no slot is left
   pub upto-end : highest vs ≤ s → Ordered n vs o m₀ count o′ m′
-  upto-end h = ordered (rest-end references vs (U .so-far) (decisions (document01 n) n vs) s (rw (decisions-length (document01 n) n vs) h))
+  upto-end h = ordered (rest-end references vs (U .so-far) (decisions (boxSetting n) n vs) s (rw (decisions-length (boxSetting n) n vs) h))
 
 -- ---- the leader vertex of a cell
 
-pub cell-leader : {n : ℕ} {vs : List Vertex} → Accepted n vs → (s c : ℕ) → c ≡ cell (decisionAt (decisions (document01 n) n vs) s) → c ≢ 0 → c ≢ 1
-    → (decisionAt (decisions (document01 n) n vs) s ≡ committed (c - 2)) × (c - 2 < length vs)
-cell-leader {n} {vs} A s c e z o = let d = cell-committed _ c e z o in (d, leads (document01 n) (one-later n) A s (c - 2) d .0)
+pub cell-leader : {n : ℕ} {vs : List Vertex} → Accepted n vs → (s c : ℕ) → c ≡ cell (decisionAt (decisions (boxSetting n) n vs) s) → c ≢ 0 → c ≢ 1
+    → (decisionAt (decisions (boxSetting n) n vs) s ≡ committed (c - 2)) × (c - 2 < length vs)
+cell-leader {n} {vs} A s c e z o = let d = cell-committed _ c e z o in (d, leads (boxSetting n) (one-later n) A s (c - 2) d .0)

@@ -10,7 +10,7 @@ use lib.Dec.{eqb}
 use lib.ListN.{length, getD, take, drop, length-append, length-drop, length-map, List·getD-append, List·getD-map}
 use lib.Seq.{drop-at}
 use borrow.Author.Tests.{ne-eqb, ltb-false}
-use Rattle.folds.specs.Folds.{firstTo, tabulate}
+use Rattle.folds.specs.Folds.{firstTo, tabulate, bytesOver}
 use Rattle.folds.proofs.Tests.{or-neither}
 use Rattle.folds.proofs.Laws.{First, first-by, first-is}
 use Rattle.folds.proofs.Lists.{length-tabulate}
@@ -24,14 +24,13 @@ use Rattle.rules.specs.Record.{first, records, vertices}
 use Rattle.rules.specs.Refusals.{_when_, _then_}
 use Rattle.rules.specs.Check.{check}
 use Rattle.rules.specs.Decision.{Decision, undecided, skipped, committed, cell}
-use Rattle.rules.specs.Decide.{document01, highest, decisions, decisionAt}
+use Rattle.rules.specs.Decide.{boxSetting, highest, decisions, decisionAt}
 use Rattle.rules.specs.Order.{order, firstUndecided}
 use Rattle.rules.specs.Settlement.{Buffers, lent, writtenOver, takenBytes, tooShort, equivocators, countsOf, settled, settleIf, settle}
 use Rattle.rules.proofs.Refusals.{then-both, when-passed}
 use Rattle.rules.proofs.Records.{vertices-length}
 use Rattle.rules.proofs.Decide.{decisions-length}
-use Rattle.decide.specs.Work.{bytesOver}
-use Rattle.decide.proofs.Bytes.{over-over, over-length}
+use Rattle.folds.proofs.Over.{over-over, over-length}
 use Rattle.decide.specs.Promise.{DecidesTo, cellsAfter, takenAfter}
 use Rattle.settlement.specs.Promise.{SettlesTo}
 
@@ -102,7 +101,7 @@ module _ (n : ℕ) (t : List ℕ) (b : Buffers) where
   -- a settled table
   module _ (cells taken : List ℕ) (D : DecidesTo n t b Passed cells taken) where
     abbrev ds : List (Decision ℕ)
-    ds = decisions (document01 n) n vs
+    ds = decisions (boxSetting n) n vs
 
     -- every decision is in its cell
     pub decided-cells : cells ≡ writtenOver (map cell ds) (b .cells)
@@ -117,7 +116,7 @@ module _ (n : ℕ) (t : List ℕ) (b : Buffers) where
     pub passes : check first n t ≡ Passed
     passes = then-both _ _ (sym (D .answer)) .0
 
-    long-enough : tooShort (document01 n) vs b ≡ false
+    long-enough : tooShort (boxSetting n) vs b ≡ false
     long-enough = when-passed _ _ (then-both _ _ (sym (D .answer)) .1)
 
     pub slots : highest vs ≤ length (b .cells)
@@ -141,10 +140,10 @@ module _ (n : ℕ) (t : List ℕ) (b : Buffers) where
 
     -- what the cells hold
     pub held : (s : ℕ) → s < highest vs → getD cells s 0 ≡ cell (decisionAt ds s)
-    held s l = ap (λ c. getD c s 0) decided-cells ∙ cell-at ds (b .cells) s (rw (decisions-length (document01 n) n vs) l)
+    held s l = ap (λ c. getD c s 0) decided-cells ∙ cell-at ds (b .cells) s (rw (decisions-length (boxSetting n) n vs) l)
 
     pub wide : highest vs ≤ length cells
-    wide = let e = decisions-length (document01 n) n vs in omega (arith, slots, ap length decided-cells ∙ cells-length ds (b .cells) (omega (arith, slots)))
+    wide = let e = decisions-length (boxSetting n) n vs in omega (arith, slots, ap length decided-cells ∙ cells-length ds (b .cells) (omega (arith, slots)))
 
     -- those past the records are as before
     past-records : (w : List ℕ) → writtenOver (takenBytes w (length vs)) taken ≡ writtenOver (takenBytes w (length vs)) (b .taken)
@@ -153,8 +152,8 @@ module _ (n : ℕ) (t : List ℕ) (b : Buffers) where
         let same : length (takenBytes w (length vs)) ≡ records first t = length-tabulate _ (length vs) ∙ vertices-length first t in
         ap (λ d. takenBytes w (length vs) ++ d) (ap (λ m. drop (length (takenBytes w (length vs))) m) untaken ∙ drop-at (tabulate (λ p. 0) (records first t)) (drop (records first t) (b .taken)) _ (length-tabulate _ (records first t) ∙ sym same) ∙ ap (λ j. drop j (b .taken)) (sym same))
 
-    pub settled-to : (x : Settlement) (order′ taken′ : List ℕ) (counts : Counts) → x .outcome ≡ outcome.Settled counts → counts ≡ countsOf n vs ds (order (document01 n) n vs)
-        → order′ ≡ writtenOver (order (document01 n) n vs) (b .order) → taken′ ≡ writtenOver (takenBytes (order (document01 n) n vs) (length vs)) taken
+    pub settled-to : (x : Settlement) (order′ taken′ : List ℕ) (counts : Counts) → x .outcome ≡ outcome.Settled counts → counts ≡ countsOf n vs ds (order (boxSetting n) n vs)
+        → order′ ≡ writtenOver (order (boxSetting n) n vs) (b .order) → taken′ ≡ writtenOver (takenBytes (order (boxSetting n) n vs) (length vs)) taken
         → SettlesTo n t b x (lent cells order′ taken′)
     unfolding settle settleIf settled order
     settled-to x order′ taken′ counts e q e2 e3 = let fits = sym (D .answer) in record { outcome = rw fits (e ∙ ap outcome.Settled q); cells = rw fits decided-cells; order = rw fits e2; taken = rw fits (e3 ∙ past-records _) }

@@ -12,23 +12,21 @@ use lib.Dec.{ltb, eqb}
 use lib.ListN.{length, getD, set, take, drop, length-set, length-append, length-take, length-drop, take-append-drop}
 use lib.Seq.{take-at, drop-append-add, drop-drop, getD-at, getD-set-same, getD-set-other, set-getD, drop-set-lt, drop-cons}
 use borrow.Author.Tests.{eqb-true, eqb-false, eq-eqb, ne-eqb, ltb-true, ltb-false}
-use Rattle.folds.specs.Folds.{_and_, _or_, bit, countTo, filterTo, tabulate}
+use Rattle.folds.specs.Folds.{_and_, _or_, bit, countTo, filterTo, tabulate, bytesOver}
 use Rattle.folds.proofs.Tests.{by-test, not-both, passed, failed, and-left, and-right, or-right, not-true}
 use Rattle.folds.proofs.Laws.{count-yes, count-no, count-and, count-witness}
 use Rattle.folds.proofs.Lists.{filter-yes, filter-no, filter-length, length-tabulate, put-next}
 use Rattle.rules.specs.declared.Vertex.{Vertex}
-use Rattle.rules.specs.Record.{first, records, vertices, at, nameOf, entry, entryName, find}
+use Rattle.rules.specs.Record.{first, records, vertices, at, nameOf, entry, entryName, find, named}
 use Rattle.rules.specs.Support.{references}
 use Rattle.rules.specs.History.{history}
 use Rattle.rules.proofs.Records.{vertices-length}
 use Rattle.rules.proofs.Accepted.{Accepted, earlier}
 use Rattle.table.specs.Search.{findBelow}
-use Rattle.table.specs.Named.{named}
 use Rattle.table.proofs.Earlier.{entry-named}
 use Rattle.decide.specs.Sweep.{markedFrom}
 use Rattle.settlement.specs.Write.{placesOver, written, due, moreAt, byteOf, dueFrom, Told, MarkedOne, MarkedMore, MarkedDown, fresh, Led}
-use Rattle.decide.specs.Work.{bytesOver}
-use Rattle.decide.proofs.Bytes.{or-last, over-at, over-length, over-same, over-over, over-set, over-next, over-keep, over-none}
+use Rattle.folds.proofs.Over.{or-last, over-at, over-length, over-same, over-over, over-set, over-next, over-keep, over-none}
 use Rattle.decide.proofs.Sweeps.{history-past, marked-history, marked-start, marked-next, marked-same, namedTo, named-none, named-all, named-same, named-next, find-among}
 
 -- ---- places that are written from `count` on

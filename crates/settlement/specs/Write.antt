@@ -6,12 +6,11 @@ use mathlib.Core.Bool.{Bool, true, false, not, cond}
 use mathlib.Core.List.{List, _++_}
 use lib.ListN.{length, getD, set, take, drop}
 use lib.Dec.{eqb}
-use Rattle.folds.specs.Folds.{_and_, _or_, bit, filterTo}
+use Rattle.folds.specs.Folds.{_and_, _or_, bit, filterTo, bytesOver}
 use Rattle.rules.specs.declared.Vertex.{Vertex}
 use Rattle.rules.specs.Record.{at, nameOf}
 use Rattle.rules.specs.Support.{references}
 use Rattle.rules.specs.History.{history}
-use Rattle.decide.specs.Work.{bytesOver}
 use Rattle.decide.specs.Sweep.{markedFrom}
 
 -- Places from `count` on are written, the others are as before.

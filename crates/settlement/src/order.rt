@@ -8,10 +8,10 @@ ghost use Rattle.rules.specs.declared.Checked.the-variants.{Passed};
 ghost use Rattle.rules.specs.Record.{first, records, vertices};
 ghost use Rattle.rules.specs.Check.{check};
 ghost use Rattle.rules.specs.Decision.{cell};
-ghost use Rattle.rules.specs.Decide.{document01, highest, decisions, decisionAt};
+ghost use Rattle.rules.specs.Decide.{boxSetting, highest, decisions, decisionAt};
 ghost use Rattle.rules.specs.Order.{order as orderOf};
 ghost use Rattle.rules.specs.Settlement.{writtenOver, takenBytes};
-ghost use Rattle.decide.specs.Work.{bytesOver};
+ghost use Rattle.folds.specs.Folds.{bytesOver};
 ghost use Rattle.settlement.specs.Write.{placesOver, written, due, Told, MarkedOne, MarkedMore, MarkedDown, Led};
 use record::RECORD;
 use rules::Name;
@@ -133,13 +133,13 @@ pub(crate) fn write_order(
     requires { ⌜ check first n (now table) ≡ Passed ⌝ }
     requires { ⌜ top ≡ highest (vertices first (now table)) ⌝ }
     requires { ⌜ top ≤ length (now cells) ⌝ }
-    requires { ⌜ ((t : ℕ) → t < top → getD (now cells) t 0 ≡ cell (decisionAt (decisions (document01 n) n (vertices first (now table))) t)) ⌝ }
+    requires { ⌜ ((t : ℕ) → t < top → getD (now cells) t 0 ≡ cell (decisionAt (decisions (boxSetting n) n (vertices first (now table))) t)) ⌝ }
     requires { ⌜ records first (now table) ≤ length (now order) ⌝ }
     requires { ⌜ records first (now table) ≤ length (now taken) ⌝ }
     requires { ⌜ now taken ≡ bytesOver (λ q. 0) (records first (now table)) (now taken) ⌝ }
-    ensures { λ r. ⌜ now (order .exit) ≡ writtenOver (orderOf (document01 n) n (vertices first (now (table .entry)))) (now (order .entry)) ⌝ }
-    ensures { λ r. ⌜ now (taken .exit) ≡ writtenOver (takenBytes (orderOf (document01 n) n (vertices first (now (table .entry)))) (length (vertices first (now (table .entry))))) (now (taken .entry)) ⌝ }
-    ensures { λ r. ⌜ r ≡ length (orderOf (document01 n) n (vertices first (now (table .entry)))) ⌝ }
+    ensures { λ r. ⌜ now (order .exit) ≡ writtenOver (orderOf (boxSetting n) n (vertices first (now (table .entry)))) (now (order .entry)) ⌝ }
+    ensures { λ r. ⌜ now (taken .exit) ≡ writtenOver (takenBytes (orderOf (boxSetting n) n (vertices first (now (table .entry)))) (length (vertices first (now (table .entry))))) (now (taken .entry)) ⌝ }
+    ensures { λ r. ⌜ r ≡ length (orderOf (boxSetting n) n (vertices first (now (table .entry)))) ⌝ }
 {
     let mut count: usize = 0;
     let mut s: usize = 0;

@@ -15,14 +15,13 @@ use Rattle.folds.proofs.Tests.{by-test, not-both, failed, and-right, and-true, 
 use Rattle.folds.proofs.Laws.{first-least, any-none, any-intro, any-cut}
 use Rattle.rules.specs.declared.Name.{Name}
 use Rattle.rules.specs.declared.Vertex.{Vertex}
-use Rattle.rules.specs.Record.{first, records, vertices, at, nameOf, entry, refers, entryName, sameName, below, find}
+use Rattle.rules.specs.Record.{first, records, vertices, at, nameOf, entry, refers, entryName, sameName, below, find, named}
 use Rattle.rules.specs.Check.{entriesWrong, notEarlier}
 use Rattle.rules.proofs.Names.{name-path, same-name, name-same, Below, below-is, is-below, below-trans, below-irrefl, below-total}
 use Rattle.rules.proofs.Records.{vertices-at, vertices-length, find-first}
 use Rattle.rules.proofs.Accepted.{rising-to}
 use Rattle.table.specs.Search.{nameAt}
 use Rattle.table.specs.Ready.{Ready}
-use Rattle.table.specs.Named.{named}
 
 -- The names of the first p records rise.
 abbrev pub Rise : List ℕ → ℕ → Type 0

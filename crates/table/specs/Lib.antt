@@ -1,3 +1,2 @@
 pub mod Search
-pub mod Named
 pub mod Ready

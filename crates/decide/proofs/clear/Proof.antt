@@ -4,8 +4,8 @@
 use Prim.Native.Nat.{_-_, _≤_}
 use mathlib.Core.Path.{_≡_, refl, ap, _∙_}
 use lib.ListN.{length, set, length-set}
-use Rattle.decide.specs.Work.{bytesOver}
-use Rattle.decide.proofs.Bytes.{over-none, over-next}
+use Rattle.folds.specs.Folds.{bytesOver}
+use Rattle.folds.proofs.Over.{over-none, over-next}
 use native.Mathlib.Omega.{arith}
 use borrow.Author.Needs.{needs}
 use Rattle.decide.proofs.clear.Statement.{statement}
@@ -20,24 +20,12 @@ abbrev μ-loop : tie.MeasureT-loop
 loop-holds : tie.Need-loop-holds Inv-loop μ-loop
 loop-holds c = (omega arith, refl, over-none (λ i. 0) 0 (c .args .taken .now) (omega arith) (λ q l. absurd (omega arith)))
 
-slice-write-taken : tie.Need-slice-write-taken Inv-loop μ-loop
-slice-write-taken c = search needs
-
-add-q : tie.Need-add-q Inv-loop μ-loop
-add-q c = search needs
-
-loop-less : tie.Need-loop-less Inv-loop μ-loop
-loop-less c = search needs
-
 loop-again : tie.Need-loop-again Inv-loop μ-loop
 loop-again c =
     let l = c .before in
     let b = l .before .args .taken .now in
     let q = l .loop .q in
     (omega arith, simp length-set (omega arith), ap (λ x. set x q 0) (l .loop .inv .2) ∙ over-next (λ i. 0) q b 0 (omega arith) refl)
-
-same-length : tie.Need-same-length Inv-loop μ-loop
-same-length c = search needs
 
 returns : tie.Need-returns Inv-loop μ-loop
 returns c = let e : c .before .loop .q ≡ c .before .before .args .k = omega arith in rw e at (c .before .loop .inv .2)
@@ -49,9 +37,7 @@ clear-spec =
     Inv-loop
     μ-loop
     loop-holds
-    slice-write-taken
-    add-q
-    loop-less
+    (λ c. search needs) (λ c. search needs) (λ c. search needs)
     loop-again
-    same-length
+    (λ c. search needs)
     returns)

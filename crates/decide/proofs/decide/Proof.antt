@@ -15,15 +15,6 @@ use borrow.Author.Needs.{needs}
 use Rattle.decide.proofs.decide.Statement.{statement}
 use Rattle.decide.proofs.decide.Tie as tie
 
-check-requires : tie.Need-check-requires
-check-requires c κs = search needs
-
-enum-told : tie.Need-enum-told
-enum-told c = search needs
-
-enum-known-c : tie.Need-enum-known-c
-enum-known-c c = search needs
-
 returns : tie.Need-returns
 returns c =
     let k = c .before .before .before in
@@ -32,12 +23,6 @@ returns c =
     let t = g .args .table .now in
     let b = lent (g .args .cells .now) (g .args .order .now) (g .args .taken .now) in
     refused-table n t b _ (sym (k .check .ensures) ∙ c .before .c .given .1)
-
-highest-of-requires : tie.Need-highest-of-requires
-highest-of-requires c κs = search needs
-
-cast-top : tie.Need-cast-top
-cast-top c = search needs
 
 returns-2 : tie.Need-returns-2
 returns-2 c =
@@ -72,15 +57,6 @@ returns-4 c =
     let passes : check first n t ≡ Passed = sym (k .check .ensures) ∙ h .before .enum-told .given .1 in
     short-taken n t b passes (rw (vertices-length first t) (omega arith))
 
-sub-decide-all : tie.Need-sub-decide-all
-sub-decide-all c = search needs
-
-part-decide-all-start : tie.Need-part-decide-all-start
-part-decide-all-start c = search needs
-
-part-decide-all-end : tie.Need-part-decide-all-end
-part-decide-all-end c = search needs
-
 decide-all-requires : tie.Need-decide-all-requires
 decide-all-requires c κs =
     let h = c .before .before .before .before .before in
@@ -103,12 +79,6 @@ clear-requires c κs =
     let n = g .args .n in
     let t = g .args .table .now in
     lent-length (d .decide-all .last .1 .1 .1 .0) (g .args .taken .now) (records first t) (omega arith) (d .decide-all .ensures .1)
-
-same-length : tie.Need-same-length
-same-length c = search needs
-
-same-length-2 : tie.Need-same-length-2
-same-length-2 c = search needs
 
 returns-5 : tie.Need-returns-5
 returns-5 c =
@@ -144,20 +114,14 @@ pub decide-spec : {M : Type 1} → statement M
 decide-spec =
     tie.close
     (tie.spec
-    check-requires
-    enum-told
-    enum-known-c
+    (λ c κs. search needs) (λ c. search needs) (λ c. search needs)
     returns
-    highest-of-requires
-    cast-top
+    (λ c κs. search needs) (λ c. search needs)
     returns-2
     returns-3
     returns-4
-    sub-decide-all
-    part-decide-all-start
-    part-decide-all-end
+    (λ c. search needs) (λ c. search needs) (λ c. search needs)
     decide-all-requires
     clear-requires
-    same-length
-    same-length-2
+    (λ c. search needs) (λ c. search needs)
     returns-5)

@@ -4,15 +4,6 @@ use borrow.Author.Needs.{needs}
 use Rattle.exports.proofs.checked_as.Statement.{statement}
 use Rattle.exports.proofs.checked_as.Tie as tie
 
-enum-told : tie.Need-enum-told
-enum-told c = search needs
-
-enum-known-c : tie.Need-enum-known-c
-enum-known-c c = search needs
-
-refusal-as-requires : tie.Need-refusal-as-requires
-refusal-as-requires c κs = search needs
-
 returns : tie.Need-returns
 returns c = rw (c .enum-told .given .1)
 
@@ -20,4 +11,6 @@ returns-2 : tie.Need-returns-2
 returns-2 c = rw (c .before .before .c .given .1) (c .refusal-as .ensures)
 
 pub checked-as-spec : {M : Type 1} → statement M
-checked-as-spec = tie.close (tie.spec enum-told enum-known-c refusal-as-requires returns returns-2)
+checked-as-spec = tie.close
+    (tie.spec
+    (λ c. search needs) (λ c. search needs) (λ c κs. search needs) returns returns-2)

@@ -6,14 +6,8 @@ use borrow.Author.Needs.{needs}
 use Rattle.exports.proofs.record_box_check.Statement.{statement}
 use Rattle.exports.proofs.record_box_check.Tie as tie
 
-check-requires : tie.Need-check-requires
-check-requires c κs = search needs
-
-checked-as-requires : tie.Need-checked-as-requires
-checked-as-requires c κs = search needs
-
 returns : tie.Need-returns
 returns c = c .checked-as .ensures ∙ ap checkedAs (c .before .check .ensures)
 
 pub record-box-check-spec : {M : Type 1} → statement M
-record-box-check-spec = tie.close (tie.spec check-requires checked-as-requires returns)
+record-box-check-spec = tie.close (tie.spec (λ c κs. search needs) (λ c κs. search needs) returns)

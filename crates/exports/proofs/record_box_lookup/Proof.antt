@@ -3,22 +3,12 @@
 use mathlib.Core.Path.{_≡_, refl, sym, _∙_}
 use native.Mathlib.Omega.{arith}
 use Rattle.rules.specs.declared.Checked.the-variants.{Passed, Refused}
-use Rattle.rules.specs.Record.{first}
+use Rattle.rules.specs.Record.{first, named}
 use Rattle.rules.specs.Check.{check}
-use Rattle.table.specs.Named.{named}
 use Rattle.lookup.proofs.Lookups.{begin-refused, length-refused, begin-found, length-found, begin-none, length-none}
 use borrow.Author.Needs.{needs}
 use Rattle.exports.proofs.record_box_lookup.Statement.{statement}
 use Rattle.exports.proofs.record_box_lookup.Tie as tie
-
-check-requires : tie.Need-check-requires
-check-requires c κs = search needs
-
-enum-told : tie.Need-enum-told
-enum-told c = search needs
-
-enum-told-2 : tie.Need-enum-told-2
-enum-told-2 c = search needs
 
 returns : tie.Need-returns
 returns c =
@@ -28,12 +18,6 @@ returns c =
     let r = c .enum-told2 .given .0 .0 in
     let e : check first (a .n) t ≡ Refused r = sym (c .before .before .check .ensures) ∙ c .enum-told2 .given .1 in
     rw (begin-refused (a .n) t x r e, length-refused (a .n) t x r e)
-
-find-requires : tie.Need-find-requires
-find-requires c κs = search needs
-
-mul-t12 : tie.Need-mul-t12
-mul-t12 c = search needs
 
 returns-2 : tie.Need-returns-2
 returns-2 c =
@@ -56,4 +40,6 @@ returns-3 c =
 pub record-box-lookup-spec : {M : Type 1} → statement M
 record-box-lookup-spec =
     tie.close
-    (tie.spec check-requires enum-told enum-told-2 returns find-requires mul-t12 returns-2 returns-3)
+    (tie.spec
+    (λ c κs. search needs) (λ c. search needs) (λ c. search needs) returns (λ c κs. search needs) (λ c. search needs)
+    returns-2 returns-3)

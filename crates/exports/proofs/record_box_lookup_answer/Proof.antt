@@ -6,14 +6,8 @@ use borrow.Author.Needs.{needs}
 use Rattle.exports.proofs.record_box_lookup_answer.Statement.{statement}
 use Rattle.exports.proofs.record_box_lookup_answer.Tie as tie
 
-lookup-answer-requires : tie.Need-lookup-answer-requires
-lookup-answer-requires c κs = search needs
-
-lookup-as-requires : tie.Need-lookup-as-requires
-lookup-as-requires c κs = search needs
-
 returns : tie.Need-returns
 returns c = c .lookup-as .ensures ∙ ap lookupAs (c .before .lookup-answer .ensures)
 
 pub record-box-lookup-answer-spec : {M : Type 1} → statement M
-record-box-lookup-answer-spec = tie.close (tie.spec lookup-answer-requires lookup-as-requires returns)
+record-box-lookup-answer-spec = tie.close (tie.spec (λ c κs. search needs) (λ c κs. search needs) returns)

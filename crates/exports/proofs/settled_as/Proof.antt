@@ -5,18 +5,6 @@ use borrow.Author.Needs.{needs}
 use Rattle.exports.proofs.settled_as.Statement.{statement}
 use Rattle.exports.proofs.settled_as.Tie as tie
 
-enum-known-o : tie.Need-enum-known-o
-enum-known-o c = search needs
-
-enum-known-o-2 : tie.Need-enum-known-o-2
-enum-known-o-2 c = search needs
-
-number-of-requires : tie.Need-number-of-requires
-number-of-requires c κs = search needs
-
-position-of-requires : tie.Need-position-of-requires
-position-of-requires c κs = search needs
-
 returns : tie.Need-returns
 returns c = rw (c .before .o .given .1) refl
 
@@ -24,4 +12,6 @@ returns-2 : tie.Need-returns-2
 returns-2 c = rw (c .before .before .before .o2 .given .1, c .before .number-of .ensures, c .position-of .ensures)
 
 pub settled-as-spec : {M : Type 1} → statement M
-settled-as-spec = tie.close (tie.spec enum-known-o enum-known-o-2 number-of-requires position-of-requires returns returns-2)
+settled-as-spec = tie.close
+    (tie.spec
+    (λ c. search needs) (λ c. search needs) (λ c κs. search needs) (λ c κs. search needs) returns returns-2)

@@ -6,12 +6,9 @@ use borrow.Author.Needs.{needs}
 use Rattle.lines.proofs.begun.Statement.{statement}
 use Rattle.lines.proofs.begun.Tie as tie
 
-array-write-bytes : tie.Need-array-write-bytes
-array-write-bytes c = search needs
-
 returns : tie.Need-returns
 unfolding textOf
 returns c = record { whole = refl; len = refl; text = refl }
 
 pub begun-spec : {M : Type 1} → statement M
-begun-spec = tie.close (tie.spec array-write-bytes returns)
+begun-spec = tie.close (tie.spec (λ c. search needs) returns)

@@ -19,26 +19,11 @@ Inv-loop x bytes₀ start₀ front₀ bytes start front =
 abbrev μ-loop : tie.MeasureT-loop
 μ-loop x bytes₀ start₀ front₀ bytes start front = front
 
-digit-of-requires : tie.Need-digit-of-requires Inv-loop μ-loop
-digit-of-requires c κs = search needs
-
-array-write-bytes : tie.Need-array-write-bytes Inv-loop μ-loop
-array-write-bytes c = search needs
-
 loop-holds : tie.Need-loop-holds Inv-loop μ-loop
 loop-holds c = (omega arith, refl, omega arith, rw (c .digit-of .ensures) (sym (decimal-last (c .before .args .x))))
 
 sub-start : tie.Need-sub-start Inv-loop μ-loop
 sub-start c = let l = c .before in place-left (l .loop .front) (l .loop .start) (omega arith) (l .loop .inv .2)
-
-digit-of-requires-2 : tie.Need-digit-of-requires-2 Inv-loop μ-loop
-digit-of-requires-2 c κs = search needs
-
-array-write-bytes-2 : tie.Need-array-write-bytes-2 Inv-loop μ-loop
-array-write-bytes-2 c = search needs
-
-loop-less : tie.Need-loop-less Inv-loop μ-loop
-loop-less c = search needs
 
 loop-again : tie.Need-loop-again Inv-loop μ-loop
 loop-again c =
@@ -62,12 +47,9 @@ digits-of-spec =
     (tie.spec
     Inv-loop
     μ-loop
-    digit-of-requires
-    array-write-bytes
+    (λ c κs. search needs) (λ c. search needs)
     loop-holds
     sub-start
-    digit-of-requires-2
-    array-write-bytes-2
-    loop-less
+    (λ c κs. search needs) (λ c. search needs) (λ c. search needs)
     loop-again
     returns)

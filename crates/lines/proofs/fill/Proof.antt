@@ -23,18 +23,6 @@ returns c = fills-not (textOf (c .before .args .l)) _ (text-short (c .before .pr
 loop-holds : tie.Need-loop-holds Inv-loop μ-loop
 loop-holds c = (omega arith, refl, refl)
 
-array-read-out : tie.Need-array-read-out Inv-loop μ-loop
-array-read-out c = search needs
-
-slice-write-out : tie.Need-slice-write-out Inv-loop μ-loop
-slice-write-out c = search needs
-
-add-i : tie.Need-add-i Inv-loop μ-loop
-add-i c = search needs
-
-loop-less : tie.Need-loop-less Inv-loop μ-loop
-loop-less c = search needs
-
 loop-again : tie.Need-loop-again Inv-loop μ-loop
 loop-again c =
     let l = c .before in
@@ -43,9 +31,6 @@ loop-again c =
       simp length-set (l .loop .inv .1),
       rw (l .loop .inv .2) (copy-next (s .args .l .bytes) (s .args .out .now) (l .loop .i) (rw (s .pre .whole) (omega arith)) (omega arith)),
     )
-
-same-length : tie.Need-same-length Inv-loop μ-loop
-same-length c = search needs
 
 returns-2 : tie.Need-returns-2 Inv-loop μ-loop
 unfolding textOf
@@ -63,10 +48,7 @@ fill-spec =
     μ-loop
     returns
     loop-holds
-    array-read-out
-    slice-write-out
-    add-i
-    loop-less
+    (λ c. search needs) (λ c. search needs) (λ c. search needs) (λ c. search needs)
     loop-again
-    same-length
+    (λ c. search needs)
     returns-2)

@@ -8,30 +8,6 @@ use borrow.Author.Needs.{needs}
 use Rattle.lines.proofs.line_committed.Statement.{statement}
 use Rattle.lines.proofs.line_committed.Tie as tie
 
-begun-requires : tie.Need-begun-requires
-begun-requires c κs = search needs
-
-with-number-requires : tie.Need-with-number-requires
-with-number-requires c κs = search needs
-
-slice-aggregate-with-word : tie.Need-slice-aggregate-with-word
-slice-aggregate-with-word c = search needs
-
-with-word-requires : tie.Need-with-word-requires
-with-word-requires c κs = search needs
-
-with-number-requires-2 : tie.Need-with-number-requires-2
-with-number-requires-2 c κs = search needs
-
-with-number-requires-3 : tie.Need-with-number-requires-3
-with-number-requires-3 c κs = search needs
-
-ended-requires : tie.Need-ended-requires
-ended-requires c κs = search needs
-
-same-length : tie.Need-same-length
-same-length c = search needs
-
 returns : tie.Need-returns
 unfolding bytesOf lineCommitted
 returns c =
@@ -54,12 +30,6 @@ pub line-committed-spec : {M : Type 1} → statement M
 line-committed-spec =
     tie.close
     (tie.spec
-    begun-requires
-    with-number-requires
-    slice-aggregate-with-word
-    with-word-requires
-    with-number-requires-2
-    with-number-requires-3
-    ended-requires
-    same-length
+    (λ c κs. search needs) (λ c κs. search needs) (λ c. search needs) (λ c κs. search needs) (λ c κs. search needs)
+    (λ c κs. search needs) (λ c κs. search needs) (λ c. search needs)
     returns)

@@ -8,30 +8,6 @@ use borrow.Author.Needs.{needs}
 use Rattle.lines.proofs.line_refused.Statement.{statement}
 use Rattle.lines.proofs.line_refused.Tie as tie
 
-number-of-requires : tie.Need-number-of-requires
-number-of-requires c κs = search needs
-
-position-of-requires : tie.Need-position-of-requires
-position-of-requires c κs = search needs
-
-begun-requires : tie.Need-begun-requires
-begun-requires c κs = search needs
-
-cast-with-number : tie.Need-cast-with-number
-cast-with-number c = search needs
-
-with-number-requires : tie.Need-with-number-requires
-with-number-requires c κs = search needs
-
-with-number-requires-2 : tie.Need-with-number-requires-2
-with-number-requires-2 c κs = search needs
-
-ended-requires : tie.Need-ended-requires
-ended-requires c κs = search needs
-
-same-length : tie.Need-same-length
-same-length c = search needs
-
 returns : tie.Need-returns
 unfolding bytesOf lineX
 returns c =
@@ -53,12 +29,6 @@ pub line-refused-spec : {M : Type 1} → statement M
 line-refused-spec =
     tie.close
     (tie.spec
-    number-of-requires
-    position-of-requires
-    begun-requires
-    cast-with-number
-    with-number-requires
-    with-number-requires-2
-    ended-requires
-    same-length
+    (λ c κs. search needs) (λ c κs. search needs) (λ c κs. search needs) (λ c. search needs) (λ c κs. search needs)
+    (λ c κs. search needs) (λ c κs. search needs) (λ c. search needs)
     returns)

@@ -7,36 +7,6 @@ use borrow.Author.Needs.{needs}
 use Rattle.lines.proofs.line_settled.Statement.{statement}
 use Rattle.lines.proofs.line_settled.Tie as tie
 
-begun-requires : tie.Need-begun-requires
-begun-requires c κs = search needs
-
-with-number-requires : tie.Need-with-number-requires
-with-number-requires c κs = search needs
-
-cast-with-number : tie.Need-cast-with-number
-cast-with-number c = search needs
-
-with-number-requires-2 : tie.Need-with-number-requires-2
-with-number-requires-2 c κs = search needs
-
-cast-with-number-2 : tie.Need-cast-with-number-2
-cast-with-number-2 c = search needs
-
-with-number-requires-3 : tie.Need-with-number-requires-3
-with-number-requires-3 c κs = search needs
-
-with-number-requires-4 : tie.Need-with-number-requires-4
-with-number-requires-4 c κs = search needs
-
-with-number-requires-5 : tie.Need-with-number-requires-5
-with-number-requires-5 c κs = search needs
-
-ended-requires : tie.Need-ended-requires
-ended-requires c κs = search needs
-
-same-length : tie.Need-same-length
-same-length c = search needs
-
 returns : tie.Need-returns
 unfolding bytesOf lineS
 returns c =
@@ -61,14 +31,6 @@ pub line-settled-spec : {M : Type 1} → statement M
 line-settled-spec =
     tie.close
     (tie.spec
-    begun-requires
-    with-number-requires
-    cast-with-number
-    with-number-requires-2
-    cast-with-number-2
-    with-number-requires-3
-    with-number-requires-4
-    with-number-requires-5
-    ended-requires
-    same-length
+    (λ c κs. search needs) (λ c κs. search needs) (λ c. search needs) (λ c κs. search needs) (λ c. search needs)
+    (λ c κs. search needs) (λ c κs. search needs) (λ c κs. search needs) (λ c κs. search needs) (λ c. search needs)
     returns)

@@ -6,18 +6,9 @@ use borrow.Author.Needs.{needs}
 use Rattle.lines.proofs.line_skipped.Statement.{statement}
 use Rattle.lines.proofs.line_skipped.Tie as tie
 
-slice-aggregate-line-word : tie.Need-slice-aggregate-line-word
-slice-aggregate-line-word c = search needs
-
-line-word-requires : tie.Need-line-word-requires
-line-word-requires c κs = search needs
-
-same-length : tie.Need-same-length
-same-length c = search needs
-
 returns : tie.Need-returns
 unfolding bytesOf lineSkipped
 returns c = c .before .before .line-word .ensures
 
 pub line-skipped-spec : {M : Type 1} → statement M
-line-skipped-spec = tie.close (tie.spec slice-aggregate-line-word line-word-requires same-length returns)
+line-skipped-spec = tie.close (tie.spec (λ c. search needs) (λ c κs. search needs) (λ c. search needs) returns)

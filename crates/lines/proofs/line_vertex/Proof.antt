@@ -8,33 +8,6 @@ use borrow.Author.Needs.{needs}
 use Rattle.lines.proofs.line_vertex.Statement.{statement}
 use Rattle.lines.proofs.line_vertex.Tie as tie
 
-begun-requires : tie.Need-begun-requires
-begun-requires c κs = search needs
-
-cast-with-number : tie.Need-cast-with-number
-cast-with-number c = search needs
-
-with-number-requires : tie.Need-with-number-requires
-with-number-requires c κs = search needs
-
-cast-with-number-2 : tie.Need-cast-with-number-2
-cast-with-number-2 c = search needs
-
-with-number-requires-2 : tie.Need-with-number-requires-2
-with-number-requires-2 c κs = search needs
-
-cast-with-number-3 : tie.Need-cast-with-number-3
-cast-with-number-3 c = search needs
-
-with-number-requires-3 : tie.Need-with-number-requires-3
-with-number-requires-3 c κs = search needs
-
-ended-requires : tie.Need-ended-requires
-ended-requires c κs = search needs
-
-same-length : tie.Need-same-length
-same-length c = search needs
-
 returns : tie.Need-returns
 unfolding bytesOf lineNamed
 returns c =
@@ -55,13 +28,6 @@ pub line-vertex-spec : {M : Type 1} → statement M
 line-vertex-spec =
     tie.close
     (tie.spec
-    begun-requires
-    cast-with-number
-    with-number-requires
-    cast-with-number-2
-    with-number-requires-2
-    cast-with-number-3
-    with-number-requires-3
-    ended-requires
-    same-length
+    (λ c κs. search needs) (λ c. search needs) (λ c κs. search needs) (λ c. search needs) (λ c κs. search needs)
+    (λ c. search needs) (λ c κs. search needs) (λ c κs. search needs) (λ c. search needs)
     returns)

@@ -8,21 +8,6 @@ use borrow.Author.Needs.{needs}
 use Rattle.lines.proofs.line_word.Statement.{statement}
 use Rattle.lines.proofs.line_word.Tie as tie
 
-begun-requires : tie.Need-begun-requires
-begun-requires c κs = search needs
-
-with-number-requires : tie.Need-with-number-requires
-with-number-requires c κs = search needs
-
-with-word-requires : tie.Need-with-word-requires
-with-word-requires c κs = search needs
-
-ended-requires : tie.Need-ended-requires
-ended-requires c κs = search needs
-
-same-length : tie.Need-same-length
-same-length c = search needs
-
 returns : tie.Need-returns
 unfolding bytesOf lineWord
 returns c =
@@ -41,9 +26,5 @@ pub line-word-spec : {M : Type 1} → statement M
 line-word-spec =
     tie.close
     (tie.spec
-    begun-requires
-    with-number-requires
-    with-word-requires
-    ended-requires
-    same-length
+    (λ c κs. search needs) (λ c κs. search needs) (λ c κs. search needs) (λ c κs. search needs) (λ c. search needs)
     returns)

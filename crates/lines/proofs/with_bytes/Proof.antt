@@ -22,30 +22,12 @@ loop-holds c =
     let a = c .before .args in
     (omega arith, rw (c .before .pre .whole) (c .before .pre .left), paste-zero (a .l .bytes) (a .l .len) (a .w .now))
 
-shared-slice-read-bytes : tie.Need-shared-slice-read-bytes Inv-loop μ-loop
-shared-slice-read-bytes c = search needs
-
-add-bytes : tie.Need-add-bytes Inv-loop μ-loop
-add-bytes c = search needs
-
-array-write-bytes : tie.Need-array-write-bytes Inv-loop μ-loop
-array-write-bytes c = search needs
-
-add-i : tie.Need-add-i Inv-loop μ-loop
-add-i c = search needs
-
-loop-less : tie.Need-loop-less Inv-loop μ-loop
-loop-less c = search needs
-
 loop-again : tie.Need-loop-again Inv-loop μ-loop
 loop-again c =
     let l = c .before .before in
     let a = l .before .before .args in
     let i = l .loop .i in
     (omega arith, l .loop .inv .1, rw (l .loop .inv .2, add-one i) (paste-suc (a .l .bytes) (a .l .len) (a .w .now) i 0 (omega arith) (omega arith)))
-
-add-t14 : tie.Need-add-t14 Inv-loop μ-loop
-add-t14 c = search needs
 
 returns : tie.Need-returns Inv-loop μ-loop
 unfolding textOf
@@ -68,11 +50,7 @@ with-bytes-spec =
     Inv-loop
     μ-loop
     loop-holds
-    shared-slice-read-bytes
-    add-bytes
-    array-write-bytes
-    add-i
-    loop-less
+    (λ c. search needs) (λ c. search needs) (λ c. search needs) (λ c. search needs) (λ c. search needs)
     loop-again
-    add-t14
+    (λ c. search needs)
     returns)

@@ -3,31 +3,18 @@
 use mathlib.Core.Path.{_≡_, sym, _∙_}
 use native.Mathlib.Omega.{arith}
 use Rattle.rules.specs.declared.Checked.the-variants.{Passed}
-use Rattle.rules.specs.Record.{first}
+use Rattle.rules.specs.Record.{first, named}
 use Rattle.rules.specs.Check.{check}
-use Rattle.table.specs.Named.{named}
 use Rattle.lookup.proofs.Lookups.{answer-refused, answer-found, answer-none}
 use borrow.Author.Needs.{needs}
 use Rattle.lookup.proofs.lookup_answer.Statement.{statement}
 use Rattle.lookup.proofs.lookup_answer.Tie as tie
-
-check-requires : tie.Need-check-requires
-check-requires c κs = search needs
-
-enum-told : tie.Need-enum-told
-enum-told c = search needs
-
-enum-known-c : tie.Need-enum-known-c
-enum-known-c c = search needs
 
 returns : tie.Need-returns
 returns c =
     let r = c .before .before .before in
     let a = r .before .before .args in
     sym (answer-refused (a .n) (a .table .now) (named (a .round) (a .author) (a .mark)) _ (sym (r .check .ensures) ∙ c .before .c .given .1))
-
-find-requires : tie.Need-find-requires
-find-requires c κs = search needs
 
 returns-2 : tie.Need-returns-2
 returns-2 c =
@@ -48,4 +35,5 @@ returns-3 c =
 pub lookup-answer-spec : {M : Type 1} → statement M
 lookup-answer-spec =
     tie.close
-    (tie.spec check-requires enum-told enum-known-c returns find-requires returns-2 returns-3)
+    (tie.spec
+    (λ c κs. search needs) (λ c. search needs) (λ c. search needs) returns (λ c κs. search needs) returns-2 returns-3)

@@ -9,11 +9,8 @@ use Rattle.record.proofs.byte_at.Tie as tie
 returns : tie.Need-returns
 returns c = sym (getD-past (c .before .args .b .now) (c .before .args .i) (c .if1 .taken))
 
-shared-slice-read-result : tie.Need-shared-slice-read-result
-shared-slice-read-result c = search needs
-
 returns-2 : tie.Need-returns-2
 returns-2 c = refl
 
 pub byte-at-spec : {M : Type 1} → statement M
-byte-at-spec = tie.close (tie.spec returns shared-slice-read-result returns-2)
+byte-at-spec = tie.close (tie.spec returns (λ c. search needs) returns-2)

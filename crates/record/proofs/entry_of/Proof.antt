@@ -9,15 +9,6 @@ use borrow.Author.Needs.{needs}
 use Rattle.record.proofs.entry_of.Statement.{statement}
 use Rattle.record.proofs.entry_of.Tie as tie
 
-mul-u32-at : tie.Need-mul-u32-at
-mul-u32-at c = search needs
-
-add-u32-at : tie.Need-add-u32-at
-add-u32-at c = search needs
-
-u32-at-requires : tie.Need-u32-at-requires
-u32-at-requires c κs = search needs
-
 returns : tie.Need-returns
 returns c =
     let a = c .before .before .before .args in
@@ -28,4 +19,4 @@ returns-2 : tie.Need-returns-2
 returns-2 c = sym (entry-past first (c .before .before .args .b .now) (c .before .before .args .i) (c .if1 .left))
 
 pub entry-of-spec : {M : Type 1} → statement M
-entry-of-spec = tie.close (tie.spec mul-u32-at add-u32-at u32-at-requires returns returns-2)
+entry-of-spec = tie.close (tie.spec (λ c. search needs) (λ c. search needs) (λ c κs. search needs) returns returns-2)

@@ -5,14 +5,8 @@ use borrow.Author.Needs.{needs}
 use Rattle.record.proofs.join_two.Statement.{statement}
 use Rattle.record.proofs.join_two.Tie as tie
 
-mul-result : tie.Need-mul-result
-mul-result c = search needs
-
-add-result : tie.Need-add-result
-add-result c = search needs
-
 returns : tie.Need-returns
 returns c = omega arith
 
 pub join-two-spec : {M : Type 1} → statement M
-join-two-spec = tie.close (tie.spec mul-result add-result returns)
+join-two-spec = tie.close (tie.spec (λ c. search needs) (λ c. search needs) returns)

@@ -7,16 +7,10 @@ use borrow.Author.Needs.{needs}
 use Rattle.record.proofs.sum_of.Statement.{statement}
 use Rattle.record.proofs.sum_of.Tie as tie
 
-copy-of-requires : tie.Need-copy-of-requires
-copy-of-requires c κs = search needs
-
-sum-words-requires : tie.Need-sum-words-requires
-sum-words-requires c κs = search needs
-
 returns : tie.Need-returns
 returns c =
     let b = c .before .before .before .args .b .now in
     c .sum-words .ensures ∙ rw (c .before .copy-of .ensures) (copy-sum first b)
 
 pub sum-of-spec : {M : Type 1} → statement M
-sum-of-spec = tie.close (tie.spec copy-of-requires sum-words-requires returns)
+sum-of-spec = tie.close (tie.spec (λ c κs. search needs) (λ c κs. search needs) returns)

@@ -26,33 +26,6 @@ abbrev μ-loop : tie.MeasureT-loop
 loop-holds : tie.Need-loop-holds Inv-loop μ-loop
 loop-holds c = omega (arith, sum-start (word (c .args .t1)))
 
-mul-join-two : tie.Need-mul-join-two Inv-loop μ-loop
-mul-join-two c = search needs
-
-array-read-join-two : tie.Need-array-read-join-two Inv-loop μ-loop
-array-read-join-two c = search needs
-
-mul-join-two-2 : tie.Need-mul-join-two-2 Inv-loop μ-loop
-mul-join-two-2 c = search needs
-
-add-join-two : tie.Need-add-join-two Inv-loop μ-loop
-add-join-two c = search needs
-
-array-read-join-two-2 : tie.Need-array-read-join-two-2 Inv-loop μ-loop
-array-read-join-two-2 c = search needs
-
-join-two-requires : tie.Need-join-two-requires Inv-loop μ-loop
-join-two-requires c κs = search needs
-
-wrapping-add-u16-requires : tie.Need-wrapping-add-u16-requires Inv-loop μ-loop
-wrapping-add-u16-requires c κs = search needs
-
-add-i : tie.Need-add-i Inv-loop μ-loop
-add-i c = search needs
-
-loop-less : tie.Need-loop-less Inv-loop μ-loop
-loop-less c = search needs
-
 loop-again : tie.Need-loop-again Inv-loop μ-loop
 loop-again c =
     let l = c .before .before .before in
@@ -70,14 +43,7 @@ sum-words-spec =
     Inv-loop
     μ-loop
     loop-holds
-    mul-join-two
-    array-read-join-two
-    mul-join-two-2
-    add-join-two
-    array-read-join-two-2
-    join-two-requires
-    wrapping-add-u16-requires
-    add-i
-    loop-less
+    (λ c. search needs) (λ c. search needs) (λ c. search needs) (λ c. search needs) (λ c. search needs)
+    (λ c κs. search needs) (λ c κs. search needs) (λ c. search needs) (λ c. search needs)
     loop-again
     returns)

@@ -9,38 +9,11 @@ use borrow.Author.Needs.{needs}
 use Rattle.record.proofs.u16_at.Statement.{statement}
 use Rattle.record.proofs.u16_at.Tie as tie
 
-minus-requires : tie.Need-minus-requires
-minus-requires c κs = search needs
-
-shared-slice-read-join-two : tie.Need-shared-slice-read-join-two
-shared-slice-read-join-two c = search needs
-
-add-join-two : tie.Need-add-join-two
-add-join-two c = search needs
-
-shared-slice-read-join-two-2 : tie.Need-shared-slice-read-join-two-2
-shared-slice-read-join-two-2 c = search needs
-
-join-two-requires : tie.Need-join-two-requires
-join-two-requires c κs = search needs
-
 returns : tie.Need-returns
 returns c =
     let a = c .before .before .before .before .before .before .args in
     let e : c .join-two .result ≡ getD (a .b .now) (a .i) 0 + 256 * getD (a .b .now) (a .i + 1) 0 = c .join-two .ensures in
     e ∙ sym (number-two (a .b .now) (a .i))
-
-rest-requires : tie.Need-rest-requires
-rest-requires c κs = search needs
-
-byte-at-requires : tie.Need-byte-at-requires
-byte-at-requires c κs = search needs
-
-byte-at-requires-2 : tie.Need-byte-at-requires-2
-byte-at-requires-2 c κs = search needs
-
-join-two-requires-2 : tie.Need-join-two-requires-2
-join-two-requires-2 c κs = search needs
 
 returns-2 : tie.Need-returns-2
 returns-2 c =
@@ -51,14 +24,7 @@ pub u16-at-spec : {M : Type 1} → statement M
 u16-at-spec =
     tie.close
     (tie.spec
-    minus-requires
-    shared-slice-read-join-two
-    add-join-two
-    shared-slice-read-join-two-2
-    join-two-requires
+    (λ c κs. search needs) (λ c. search needs) (λ c. search needs) (λ c. search needs) (λ c κs. search needs)
     returns
-    rest-requires
-    byte-at-requires
-    byte-at-requires-2
-    join-two-requires-2
+    (λ c κs. search needs) (λ c κs. search needs) (λ c κs. search needs) (λ c κs. search needs)
     returns-2)

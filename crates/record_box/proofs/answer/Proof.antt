@@ -11,24 +11,6 @@ returns c =
     let a = c .before .before .before .before .before .args in
     answers-long (a .input .now) (record { cells = a .cells .now; order = a .order .now; taken = a .taken .now }) _ (c .if1 .taken) refl
 
-byte-at-requires : tie.Need-byte-at-requires
-byte-at-requires c κs = search needs
-
-table-of-requires : tie.Need-table-of-requires
-table-of-requires c κs = search needs
-
-settle-requires : tie.Need-settle-requires
-settle-requires c κs = search needs
-
-same-length : tie.Need-same-length
-same-length c = search needs
-
-same-length-2 : tie.Need-same-length-2
-same-length-2 c = search needs
-
-same-length-3 : tie.Need-same-length-3
-same-length-3 c = search needs
-
 returns-2 : tie.Need-returns-2
 returns-2 c =
     let s = c .before .before .before .before .before .before in
@@ -43,10 +25,6 @@ answer-spec =
     tie.close
     (tie.spec
     returns
-    byte-at-requires
-    table-of-requires
-    settle-requires
-    same-length
-    same-length-2
-    same-length-3
+    (λ c κs. search needs) (λ c κs. search needs) (λ c κs. search needs) (λ c. search needs) (λ c. search needs)
+    (λ c. search needs)
     returns-2)

@@ -5,21 +5,6 @@ use borrow.Author.Needs.{needs}
 use Rattle.report.proofs.output_line.Statement.{statement}
 use Rattle.report.proofs.output_line.Tie as tie
 
-enum-known-o : tie.Need-enum-known-o
-enum-known-o c = search needs
-
-settled-line-requires : tie.Need-settled-line-requires
-settled-line-requires c κs = search needs
-
-enum-known-o-2 : tie.Need-enum-known-o-2
-enum-known-o-2 c = search needs
-
-line-refused-requires : tie.Need-line-refused-requires
-line-refused-requires c κs = search needs
-
-same-length : tie.Need-same-length
-same-length c = search needs
-
 returns : tie.Need-returns
 returns c =
     let l = c .before .before in
@@ -27,9 +12,6 @@ returns c =
     let o = t .before .before in
     let a = o .before .before .before .before .before .before .args in
     fills-as (output-refused (a .s .outcome) (a .table .now) (a .cells .now) (a .order .now) (o .o2 .given .0 .0) (a .i) (o .o2 .given .1) (t .if1 .taken)) (l .line-refused .ensures)
-
-same-length-2 : tie.Need-same-length-2
-same-length-2 c = search needs
 
 returns-2 : tie.Need-returns-2
 returns-2 c =
@@ -48,12 +30,8 @@ pub output-line-spec : {M : Type 1} → statement M
 output-line-spec =
     tie.close
     (tie.spec
-    enum-known-o
-    settled-line-requires
-    enum-known-o-2
-    line-refused-requires
-    same-length
+    (λ c. search needs) (λ c κs. search needs) (λ c. search needs) (λ c κs. search needs) (λ c. search needs)
     returns
-    same-length-2
+    (λ c. search needs)
     returns-2
     returns-3)

@@ -6,15 +6,6 @@ use borrow.Author.Needs.{needs}
 use Rattle.report.proofs.output_lines.Statement.{statement}
 use Rattle.report.proofs.output_lines.Tie as tie
 
-enum-known-o : tie.Need-enum-known-o
-enum-known-o c = search needs
-
-settled-lines-requires : tie.Need-settled-lines-requires
-settled-lines-requires c κs = search needs
-
-enum-told : tie.Need-enum-told
-enum-told c = search needs
-
 returns : tie.Need-returns
 unfolding outputLines
 returns c = rw (c .before .before .o .given .1) (c .settled-lines .ensures)
@@ -25,4 +16,4 @@ returns-2 c = rw (c .enum-told .given .1) refl
 
 pub output-lines-spec : {M : Type 1} → statement M
 output-lines-spec =
-    tie.close (tie.spec enum-known-o settled-lines-requires enum-told returns returns-2)
+    tie.close (tie.spec (λ c. search needs) (λ c κs. search needs) (λ c. search needs) returns returns-2)

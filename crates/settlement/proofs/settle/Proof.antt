@@ -10,7 +10,7 @@ use Rattle.rules.specs.declared.Counts.{Counts}
 use Rattle.rules.specs.declared.Outcome.the-variants as outcome
 use Rattle.rules.specs.Record.{first, records, vertices}
 use Rattle.rules.specs.Decision.{cell}
-use Rattle.rules.specs.Decide.{document01, highest, decisions, decisionAt}
+use Rattle.rules.specs.Decide.{boxSetting, highest, decisions, decisionAt}
 use Rattle.rules.specs.Order.{order}
 use Rattle.rules.specs.Settlement.{lent}
 use Rattle.rules.proofs.Records.{vertices-length}
@@ -23,27 +23,6 @@ use borrow.Author.Needs.{needs}
 use Rattle.settlement.proofs.settle.Statement.{statement}
 use Rattle.settlement.proofs.settle.Tie as tie
 
-decide-requires : tie.Need-decide-requires
-decide-requires c κs = search needs
-
-enum-told : tie.Need-enum-told
-enum-told c = search needs
-
-enum-known-c : tie.Need-enum-known-c
-enum-known-c c = search needs
-
-refused-requires : tie.Need-refused-requires
-refused-requires c κs = search needs
-
-same-length : tie.Need-same-length
-same-length c = search needs
-
-same-length-2 : tie.Need-same-length-2
-same-length-2 c = search needs
-
-same-length-3 : tie.Need-same-length-3
-same-length-3 c = search needs
-
 returns : tie.Need-returns
 returns c =
     let k = c .before .before .before .before .before .before .before .before in
@@ -51,12 +30,6 @@ returns c =
     let b = lent (g .args .cells .now) (g .args .order .now) (g .args .taken .now) in
     let e = c .before .before .c .given .1 in
     settled.refused-to (g .args .n) (g .args .table .now) b (c .refused .result) _ _ _ (rw e at (k .decide .ensures)) (c .refused .ensures)
-
-highest-of-requires : tie.Need-highest-of-requires
-highest-of-requires c κs = search needs
-
-cast-top : tie.Need-cast-top
-cast-top c = search needs
 
 write-order-requires : tie.Need-write-order-requires
 write-order-requires c κs =
@@ -116,15 +89,6 @@ equivocators-of-requires c κs =
     let top : h .highest-of .result ≡ highest (vertices first t) = h .highest-of .ensures in
     settled.passes n t b cells taken D
 
-same-length-4 : tie.Need-same-length-4
-same-length-4 c = search needs
-
-same-length-5 : tie.Need-same-length-5
-same-length-5 c = search needs
-
-same-length-6 : tie.Need-same-length-6
-same-length-6 c = search needs
-
 returns-2 : tie.Need-returns-2
 returns-2 c =
     let h = c .before .before .before .before .before .before .before .before .before .before .before in
@@ -140,32 +104,24 @@ returns-2 c =
     let w = c .before .before .before .before .before .before .before in
     let f = c .before in
     let vs = vertices first t in
-    let ds = decisions (document01 n) n vs in
-    let size : h .highest-of .result ≡ length ds = top ∙ sym (decisions-length (document01 n) n vs) in
+    let ds = decisions (boxSetting n) n vs in
+    let size : h .highest-of .result ≡ length ds = top ∙ sym (decisions-length (boxSetting n) n vs) in
     let held : (j : ℕ) → j < h .highest-of .result → getD cells j 0 ≡ cell (decisionAt ds j) = λ j l. settled.held n t b cells taken D j (omega (arith, top)) in
     let counts : Counts = record { records = records first t; highest = h .highest-of .result; undecided = f .first-undecided .result; written = w .write-order .result; equivocators = c .equivocators-of .result } in
-    let are = counts-are n vs ds (order (document01 n) n vs) counts (sym (vertices-length first t)) top (f .first-undecided .ensures ∙ open-cell ds cells (h .highest-of .result) size held) (w .write-order .ensures .1 .1) (c .equivocators-of .ensures) in
+    let are = counts-are n vs ds (order (boxSetting n) n vs) counts (sym (vertices-length first t)) top (f .first-undecided .ensures ∙ open-cell ds cells (h .highest-of .result) size held) (w .write-order .ensures .1 .1) (c .equivocators-of .ensures) in
     settled.settled-to n t b cells taken D (record { outcome = outcome.Settled counts }) (w .write-order .last .1 .1 .1 .1 .0) (w .write-order .last .1 .1 .1 .1 .1 .0) counts refl are (w .write-order .ensures .0) (w .write-order .ensures .1 .0)
 
 pub settle-spec : {M : Type 1} → statement M
 settle-spec =
     tie.close
     (tie.spec
-    decide-requires
-    enum-told
-    enum-known-c
-    refused-requires
-    same-length
-    same-length-2
-    same-length-3
+    (λ c κs. search needs) (λ c. search needs) (λ c. search needs) (λ c κs. search needs) (λ c. search needs)
+    (λ c. search needs) (λ c. search needs)
     returns
-    highest-of-requires
-    cast-top
+    (λ c κs. search needs) (λ c. search needs)
     write-order-requires
     first-undecided-requires
     cast-t29
     equivocators-of-requires
-    same-length-4
-    same-length-5
-    same-length-6
+    (λ c. search needs) (λ c. search needs) (λ c. search needs)
     returns-2)

@@ -6,9 +6,6 @@ use borrow.Author.Needs.{needs}
 use Rattle.table.proofs.check.Statement.{statement}
 use Rattle.table.proofs.check.Tie as tie
 
-is-count-requires : tie.Need-is-count-requires
-is-count-requires c κs = search needs
-
 returns : tie.Need-returns
 returns c =
     let i = c .before .before in
@@ -42,4 +39,4 @@ returns-4 c =
 pub check-spec : {M : Type 1} → statement M
 check-spec =
     tie.close
-    (tie.spec is-count-requires returns returns-2 check-records-requires returns-3 returns-4)
+    (tie.spec (λ c κs. search needs) returns returns-2 check-records-requires returns-3 returns-4)

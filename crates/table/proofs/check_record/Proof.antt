@@ -7,48 +7,6 @@ use borrow.Author.Needs.{needs}
 use Rattle.table.proofs.check_record.Statement.{statement}
 use Rattle.table.proofs.check_record.Tie as tie
 
-mul-sum-of : tie.Need-mul-sum-of
-mul-sum-of c = search needs
-
-mul-sum-of-2 : tie.Need-mul-sum-of-2
-mul-sum-of-2 c = search needs
-
-add-sum-of : tie.Need-add-sum-of
-add-sum-of c = search needs
-
-sub-sum-of : tie.Need-sub-sum-of
-sub-sum-of c = search needs
-
-part-sum-of-start : tie.Need-part-sum-of-start
-part-sum-of-start c = search needs
-
-part-sum-of-end : tie.Need-part-sum-of-end
-part-sum-of-end c = search needs
-
-sum-of-requires : tie.Need-sum-of-requires
-sum-of-requires c κs = search needs
-
-mul-decode : tie.Need-mul-decode
-mul-decode c = search needs
-
-mul-decode-2 : tie.Need-mul-decode-2
-mul-decode-2 c = search needs
-
-add-decode : tie.Need-add-decode
-add-decode c = search needs
-
-sub-decode : tie.Need-sub-decode
-sub-decode c = search needs
-
-part-decode-start : tie.Need-part-decode-start
-part-decode-start c = search needs
-
-part-decode-end : tie.Need-part-decode-end
-part-decode-end c = search needs
-
-decode-requires : tie.Need-decode-requires
-decode-requires c κs = search needs
-
 returns : tie.Need-returns
 returns c =
     let d = c .before .before in
@@ -57,9 +15,6 @@ returns c =
     sym
     (refused-4 (a .n) (a .table .now) (a .p) (omega arith) _ (d .decode .ensures) _ (d .before .before .sum-of .ensures)
     (c .if1 .taken))
-
-fields-wrong-requires : tie.Need-fields-wrong-requires
-fields-wrong-requires c κs = search needs
 
 returns-2 : tie.Need-returns-2
 returns-2 c =
@@ -71,9 +26,6 @@ returns-2 c =
     (refused-5 (a .n) (a .table .now) (a .p) (omega arith) _ (d .decode .ensures) _ (d .before .before .sum-of .ensures)
     (four .if1 .left)
     (sym (c .before .fields-wrong .ensures) ∙ c .if2 .taken))
-
-not-above-requires : tie.Need-not-above-requires
-not-above-requires c κs = search needs
 
 returns-3 : tie.Need-returns-3
 returns-3 c =
@@ -183,24 +135,13 @@ pub check-record-spec : {M : Type 1} → statement M
 check-record-spec =
     tie.close
     (tie.spec
-    mul-sum-of
-    mul-sum-of-2
-    add-sum-of
-    sub-sum-of
-    part-sum-of-start
-    part-sum-of-end
-    sum-of-requires
-    mul-decode
-    mul-decode-2
-    add-decode
-    sub-decode
-    part-decode-start
-    part-decode-end
-    decode-requires
+    (λ c. search needs) (λ c. search needs) (λ c. search needs) (λ c. search needs) (λ c. search needs)
+    (λ c. search needs) (λ c κs. search needs) (λ c. search needs) (λ c. search needs) (λ c. search needs)
+    (λ c. search needs) (λ c. search needs) (λ c. search needs) (λ c κs. search needs)
     returns
-    fields-wrong-requires
+    (λ c κs. search needs)
     returns-2
-    not-above-requires
+    (λ c κs. search needs)
     returns-3
     entries-wrong-requires
     returns-4

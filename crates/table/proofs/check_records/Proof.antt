@@ -22,27 +22,12 @@ abbrev μ-loop : tie.MeasureT-loop
 loop-holds : tie.Need-loop-holds Inv-loop μ-loop
 loop-holds c = (omega arith, each-start _)
 
-check-record-requires : tie.Need-check-record-requires Inv-loop μ-loop
-check-record-requires c κs = search needs
-
-enum-told : tie.Need-enum-told Inv-loop μ-loop
-enum-told c = search needs
-
-enum-known-c : tie.Need-enum-known-c Inv-loop μ-loop
-enum-known-c c = search needs
-
 returns : tie.Need-returns Inv-loop μ-loop
 returns c =
     let r = c .before .before .before in
     let l = r .before .before in
     let a = l .before .before .args in
     sym (each-refused (checkAt (a .n) (a .table .now)) _ (l .loop .p) _ (omega arith) (l .loop .inv .1) (sym (r .check-record .ensures) ∙ c .before .c .given .1))
-
-add-p : tie.Need-add-p Inv-loop μ-loop
-add-p c = search needs
-
-loop-less : tie.Need-loop-less Inv-loop μ-loop
-loop-less c = search needs
 
 loop-again : tie.Need-loop-again Inv-loop μ-loop
 loop-again c =
@@ -65,11 +50,8 @@ check-records-spec =
     Inv-loop
     μ-loop
     loop-holds
-    check-record-requires
-    enum-told
-    enum-known-c
+    (λ c κs. search needs) (λ c. search needs) (λ c. search needs)
     returns
-    add-p
-    loop-less
+    (λ c. search needs) (λ c. search needs)
     loop-again
     returns-2)

@@ -9,26 +9,17 @@ use borrow.Author.Needs.{needs}
 use Rattle.table.proofs.entries_wrong.Statement.{statement}
 use Rattle.table.proofs.entries_wrong.Tie as tie
 
-filled-requires : tie.Need-filled-requires
-filled-requires c κs = search needs
-
 returns : tie.Need-returns
 returns c =
     let f = c .before .before .before in
     let a = f .before .before .args in
     sym (entries-first (a .n) (a .v) _ (f .filled .ensures) (c .before .if1 .taken) (c .if2 .taken))
 
-filled-requires-2 : tie.Need-filled-requires-2
-filled-requires-2 c κs = search needs
-
 returns-2 : tie.Need-returns-2
 returns-2 c =
     let f = c .before .before .before .before in
     let a = f .before .before .args in
     sym (entries-high (a .n) (a .v) (omega arith) _ _ (f .filled .ensures) (c .before .filled2 .ensures) (c .if3 .taken))
-
-quorum-of-requires : tie.Need-quorum-of-requires
-quorum-of-requires c κs = search needs
 
 returns-3 : tie.Need-returns-3
 returns-3 c =
@@ -50,10 +41,10 @@ pub entries-wrong-spec : {M : Type 1} → statement M
 entries-wrong-spec =
     tie.close
     (tie.spec
-    filled-requires
+    (λ c κs. search needs)
     returns
-    filled-requires-2
+    (λ c κs. search needs)
     returns-2
-    quorum-of-requires
+    (λ c κs. search needs)
     returns-3
     returns-4)

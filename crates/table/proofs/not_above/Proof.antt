@@ -10,18 +10,6 @@ use Rattle.table.proofs.not_above.Tie as tie
 returns : tie.Need-returns
 returns c = sym (first-above _ _ (c .if1 .taken))
 
-sub-name-at : tie.Need-sub-name-at
-sub-name-at c = search needs
-
-name-at-requires : tie.Need-name-at-requires
-name-at-requires c κs = search needs
-
-name-at-requires-2 : tie.Need-name-at-requires-2
-name-at-requires-2 c κs = search needs
-
-below-requires : tie.Need-below-requires
-below-requires c κs = search needs
-
 returns-2 : tie.Need-returns-2
 returns-2 c =
     let b = c .before in
@@ -39,9 +27,6 @@ not-above-spec =
     tie.close
     (tie.spec
     returns
-    sub-name-at
-    name-at-requires
-    name-at-requires-2
-    below-requires
+    (λ c. search needs) (λ c κs. search needs) (λ c κs. search needs) (λ c κs. search needs)
     returns-2
     returns-3)

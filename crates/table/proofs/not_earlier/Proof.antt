@@ -8,9 +8,8 @@ use mathlib.Core.Logic.{⊎-elim}
 use mathlib.Core.Bool.{true, false}
 use Rattle.folds.specs.Folds.{anyTo}
 use Rattle.folds.proofs.Laws.{any-start, any-next}
-use Rattle.rules.specs.Record.{entry, sameName, below}
+use Rattle.rules.specs.Record.{entry, sameName, below, named}
 use Rattle.table.specs.Search.{nameAt}
-use Rattle.table.specs.Named.{named}
 use Rattle.table.proofs.Search.{halved}
 use Rattle.table.proofs.Earlier.{rise, Searched, searched-start, searched-turn, missing, missing-empty, entry-named, none-missing, some-missing, not-missing}
 use native.Mathlib.Omega.{arith}
@@ -33,41 +32,8 @@ abbrev μ-entries : tie.MeasureT-entries
 entries-holds : tie.Need-entries-holds Inv-loop μ-loop Inv-entries μ-entries
 entries-holds c = (omega arith, any-start _)
 
-mul-mark : tie.Need-mul-mark Inv-loop μ-loop Inv-entries μ-entries
-mul-mark c = search needs
-
-array-read-mark : tie.Need-array-read-mark Inv-loop μ-loop Inv-entries μ-entries
-array-read-mark c = search needs
-
-sub-t22 : tie.Need-sub-t22 Inv-loop μ-loop Inv-entries μ-entries
-sub-t22 c = search needs
-
-cast-t23 : tie.Need-cast-t23 Inv-loop μ-loop Inv-entries μ-entries
-cast-t23 c = search needs
-
 loop-holds : tie.Need-loop-holds Inv-loop μ-loop Inv-entries μ-entries
 loop-holds c = searched-start _ _ _
-
-sub-m : tie.Need-sub-m Inv-loop μ-loop Inv-entries μ-entries
-sub-m c = search needs
-
-add-m : tie.Need-add-m Inv-loop μ-loop Inv-entries μ-entries
-add-m c = search needs
-
-name-at-requires : tie.Need-name-at-requires Inv-loop μ-loop Inv-entries μ-entries
-name-at-requires c κs = search needs
-
-same-requires : tie.Need-same-requires Inv-loop μ-loop Inv-entries μ-entries
-same-requires c κs = search needs
-
-below-requires : tie.Need-below-requires Inv-loop μ-loop Inv-entries μ-entries
-below-requires c κs = search needs
-
-raised-requires : tie.Need-raised-requires Inv-loop μ-loop Inv-entries μ-entries
-raised-requires c κs = search needs
-
-lowered-requires : tie.Need-lowered-requires Inv-loop μ-loop Inv-entries μ-entries
-lowered-requires c κs = search needs
 
 loop-less : tie.Need-loop-less Inv-loop μ-loop Inv-entries μ-entries
 loop-less c =
@@ -87,12 +53,6 @@ loop-again c =
     let other : sameName (nameAt t m) x ≡ false = rw (← y .name-at .ensures, ← b .before .before .same .ensures) (b .before .if4 .left) in
     let held : b .below .result ≡ below (nameAt t m) x = rw (← y .name-at .ensures) (b .below .ensures) in
     searched-turn t (s .args .p) x (rise (s .args .n) t (s .args .p) (s .args .v) (s .pre)) (l .loop .lo) (l .loop .hi) m refl (omega arith) (l .loop .inv) other (b .below .result) _ _ held (c .before .raised .ensures) (c .lowered .ensures)
-
-add-i : tie.Need-add-i Inv-loop μ-loop Inv-entries μ-entries
-add-i c = search needs
-
-entries-less : tie.Need-entries-less Inv-loop μ-loop Inv-entries μ-entries
-entries-less c = search needs
 
 entries-again : tie.Need-entries-again Inv-loop μ-loop Inv-entries μ-entries
 entries-again c =
@@ -139,22 +99,13 @@ not-earlier-spec =
     Inv-entries
     μ-entries
     entries-holds
-    mul-mark
-    array-read-mark
-    sub-t22
-    cast-t23
+    (λ c. search needs) (λ c. search needs) (λ c. search needs) (λ c. search needs)
     loop-holds
-    sub-m
-    add-m
-    name-at-requires
-    same-requires
-    below-requires
-    raised-requires
-    lowered-requires
+    (λ c. search needs) (λ c. search needs) (λ c κs. search needs) (λ c κs. search needs) (λ c κs. search needs)
+    (λ c κs. search needs) (λ c κs. search needs)
     loop-less
     loop-again
-    add-i
-    entries-less
+    (λ c. search needs) (λ c. search needs)
     entries-again
     returns
     returns-2)

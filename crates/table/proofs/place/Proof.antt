@@ -7,12 +7,6 @@ use borrow.Author.Needs.{needs}
 use Rattle.table.proofs.place.Statement.{statement}
 use Rattle.table.proofs.place.Tie as tie
 
-smaller-requires : tie.Need-smaller-requires
-smaller-requires c κs = search needs
-
-place-of-requires : tie.Need-place-of-requires
-place-of-requires c κs = search needs
-
 returns : tie.Need-returns
 returns c =
     let a = c .before .before .before .args in
@@ -20,4 +14,4 @@ returns c =
     rw (← k) (c .place-of .ensures)
 
 pub place-spec : {M : Type 1} → statement M
-place-spec = tie.close (tie.spec smaller-requires place-of-requires returns)
+place-spec = tie.close (tie.spec (λ c κs. search needs) (λ c κs. search needs) returns)

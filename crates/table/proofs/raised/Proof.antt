@@ -4,14 +4,8 @@ use borrow.Author.Needs.{needs}
 use Rattle.table.proofs.raised.Statement.{statement}
 use Rattle.table.proofs.raised.Tie as tie
 
-add-result : tie.Need-add-result
-add-result c = search needs
-
 returns : tie.Need-returns
 returns c = rw (c .if1 .taken)
 
-returns-2 : tie.Need-returns-2
-returns-2 c = search needs
-
 pub raised-spec : {M : Type 1} → statement M
-raised-spec = tie.close (tie.spec add-result returns returns-2)
+raised-spec = tie.close (tie.spec (λ c. search needs) returns (λ c. search needs))

@@ -22,27 +22,12 @@ abbrev μ-loop : tie.MeasureT-loop
 loop-holds : tie.Need-loop-holds Inv-loop μ-loop
 loop-holds c = (omega arith, λ j l. absurd (not-suc-le-zero l))
 
-mul-mark : tie.Need-mul-mark Inv-loop μ-loop
-mul-mark c = search needs
-
-array-read-mark : tie.Need-array-read-mark Inv-loop μ-loop
-array-read-mark c = search needs
-
-count-mark-requires : tie.Need-count-mark-requires Inv-loop μ-loop
-count-mark-requires c κs = search needs
-
 returns : tie.Need-returns Inv-loop μ-loop
 returns c =
     let f = c .before in
     let l = f .before .before .before in
     let a = l .before .args in
     sym (enough-found (a .t1) (a .q) (l .loop .i) (omega arith) (l .loop .inv .1) (enough-many (a .t1) (a .q) (l .loop .i) (f .before .if1 .taken) (omega (arith, f .count-mark .ensures))))
-
-add-i : tie.Need-add-i Inv-loop μ-loop
-add-i c = search needs
-
-loop-less : tie.Need-loop-less Inv-loop μ-loop
-loop-less c = search needs
 
 loop-again : tie.Need-loop-again Inv-loop μ-loop
 loop-again c =
@@ -63,11 +48,8 @@ enough-of-spec =
     Inv-loop
     μ-loop
     loop-holds
-    mul-mark
-    array-read-mark
-    count-mark-requires
+    (λ c. search needs) (λ c. search needs) (λ c κs. search needs)
     returns
-    add-i
-    loop-less
+    (λ c. search needs) (λ c. search needs)
     loop-again
     returns-2)

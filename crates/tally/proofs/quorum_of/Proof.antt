@@ -5,14 +5,8 @@ use borrow.Author.Needs.{needs}
 use Rattle.tally.proofs.quorum_of.Statement.{statement}
 use Rattle.tally.proofs.quorum_of.Tie as tie
 
-mul-result : tie.Need-mul-result
-mul-result c = search needs
-
-add-result : tie.Need-add-result
-add-result c = search needs
-
 returns : tie.Need-returns
 returns c = refl
 
 pub quorum-of-spec : {M : Type 1} → statement M
-quorum-of-spec = tie.close (tie.spec mul-result add-result returns)
+quorum-of-spec = tie.close (tie.spec (λ c. search needs) (λ c. search needs) returns)

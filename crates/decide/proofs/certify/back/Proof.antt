@@ -16,12 +16,6 @@ returns c =
     let vs = vertices first (s .args .table .now) in
     sym (none-entry vs (s .args .x) (s .args .leader) (no-mark (accepted first (s .args .n) (s .args .table .now) (s .pre)) (s .args .x) (c .if1 .taken)))
 
-find-requires : tie.Need-find-requires
-find-requires c κs = search needs
-
-entry-at-requires : tie.Need-entry-at-requires
-entry-at-requires c κs = search needs
-
 returns-2 : tie.Need-returns-2
 unfolding vertexOf
 returns-2 c =
@@ -39,4 +33,4 @@ returns-3 c =
     sym (none-entry (vertices first t) (s .args .x) (s .args .leader) (omega (arith, e, vertices-length first t)))
 
 pub back-spec : {M : Type 1} → statement M
-back-spec = tie.close (tie.spec returns find-requires entry-at-requires returns-2 returns-3)
+back-spec = tie.close (tie.spec returns (λ c κs. search needs) (λ c κs. search needs) returns-2 returns-3)

@@ -5,8 +5,7 @@ use Prim.Native.Nat.{ℕ, _-_, _≤_, _<_}
 use mathlib.Core.Path.{_≡_}
 use mathlib.Core.List.{List}
 use lib.ListN.{getD}
-use Rattle.rules.specs.Record.{first, vertices, entry, vertexOf}
-use Rattle.table.specs.Named.{named}
+use Rattle.rules.specs.Record.{first, vertices, entry, vertexOf, named}
 use Rattle.decide.specs.Certify.{backs}
 use Rattle.decide.proofs.Ranges.{author-limit}
 use Rattle.decide.proofs.Certified.{Filled, filled-start, filled-next, filled-end}
@@ -28,29 +27,11 @@ abbrev μ-loop : tie.MeasureT-loop
 loop-holds : tie.Need-loop-holds Inv-loop μ-loop
 loop-holds c = (omega arith, filled-start (backed (c .before .args .table .now) (c .before .args .t3) (c .before .args .round) (c .before .args .leader)))
 
-cast-t12 : tie.Need-cast-t12 Inv-loop μ-loop
-cast-t12 c = search needs
-
-mul-marks : tie.Need-mul-marks Inv-loop μ-loop
-mul-marks c = search needs
-
 array-read-marks : tie.Need-array-read-marks Inv-loop μ-loop
 array-read-marks c = let s = c .before .before .before in omega (arith, author-limit (s .args .n) (s .args .table .now) (s .pre))
 
-back-requires : tie.Need-back-requires Inv-loop μ-loop
-back-requires c κs = search needs
-
-mul-marks-2 : tie.Need-mul-marks-2 Inv-loop μ-loop
-mul-marks-2 c = search needs
-
 array-write-marks : tie.Need-array-write-marks Inv-loop μ-loop
 array-write-marks c = let s = c .before .before .before .before in omega (arith, author-limit (s .args .n) (s .args .table .now) (s .pre))
-
-add-i : tie.Need-add-i Inv-loop μ-loop
-add-i c = search needs
-
-loop-less : tie.Need-loop-less Inv-loop μ-loop
-loop-less c = search needs
 
 loop-again : tie.Need-loop-again Inv-loop μ-loop
 loop-again c =
@@ -75,13 +56,10 @@ backing-spec =
     Inv-loop
     μ-loop
     loop-holds
-    cast-t12
-    mul-marks
+    (λ c. search needs) (λ c. search needs)
     array-read-marks
-    back-requires
-    mul-marks-2
+    (λ c κs. search needs) (λ c. search needs)
     array-write-marks
-    add-i
-    loop-less
+    (λ c. search needs) (λ c. search needs)
     loop-again
     returns)

@@ -12,43 +12,10 @@ use borrow.Author.Needs.{needs}
 use Rattle.decide.proofs.certify.certified_at.Statement.{statement}
 use Rattle.decide.proofs.certify.certified_at.Tie as tie
 
-mul-refs-of : tie.Need-mul-refs-of
-mul-refs-of c = search needs
-
-mul-refs-of-2 : tie.Need-mul-refs-of-2
-mul-refs-of-2 c = search needs
-
-add-refs-of : tie.Need-add-refs-of
-add-refs-of c = search needs
-
-sub-refs-of : tie.Need-sub-refs-of
-sub-refs-of c = search needs
-
-part-refs-of-start : tie.Need-part-refs-of-start
-part-refs-of-start c = search needs
-
-part-refs-of-end : tie.Need-part-refs-of-end
-part-refs-of-end c = search needs
-
-refs-of-requires : tie.Need-refs-of-requires
-refs-of-requires c κs = search needs
-
 add-backing : tie.Need-add-backing
 add-backing c =
     let s = c .before .before .before in
     omega (arith, s .pre .1 .1, round-limit (s .args .n) (s .args .table .now) (s .pre .0) (s .args .w) (s .pre .1 .0))
-
-backing-requires : tie.Need-backing-requires
-backing-requires c κs = search needs
-
-quorum-of-requires : tie.Need-quorum-of-requires
-quorum-of-requires c κs = search needs
-
-enough-of-requires : tie.Need-enough-of-requires
-enough-of-requires c κs = search needs
-
-find-requires : tie.Need-find-requires
-find-requires c κs = search needs
 
 returns : tie.Need-returns
 returns c =
@@ -65,16 +32,8 @@ pub certified-at-spec : {M : Type 1} → statement M
 certified-at-spec =
     tie.close
     (tie.spec
-    mul-refs-of
-    mul-refs-of-2
-    add-refs-of
-    sub-refs-of
-    part-refs-of-start
-    part-refs-of-end
-    refs-of-requires
+    (λ c. search needs) (λ c. search needs) (λ c. search needs) (λ c. search needs) (λ c. search needs)
+    (λ c. search needs) (λ c κs. search needs)
     add-backing
-    backing-requires
-    quorum-of-requires
-    enough-of-requires
-    find-requires
+    (λ c κs. search needs) (λ c κs. search needs) (λ c κs. search needs) (λ c κs. search needs)
     returns)

@@ -23,26 +23,8 @@ Inv-loop n table round leader b e marks q p₀ p = (b ≤ p) × (p - b ≤ e - b
 abbrev μ-loop : tie.MeasureT-loop
 μ-loop n table round leader b e marks q p₀ p = e - p
 
-quorum-of-requires : tie.Need-quorum-of-requires Inv-loop μ-loop
-quorum-of-requires c κs = search needs
-
 loop-holds : tie.Need-loop-holds Inv-loop μ-loop
 loop-holds c = (omega arith, omega arith, λ p l h. absurd (omega arith))
-
-sub-tag : tie.Need-sub-tag Inv-loop μ-loop
-sub-tag c = search needs
-
-cast-tag : tie.Need-cast-tag Inv-loop μ-loop
-cast-tag c = search needs
-
-add-tag : tie.Need-add-tag Inv-loop μ-loop
-add-tag c = search needs
-
-add-authors-tagged : tie.Need-add-authors-tagged Inv-loop μ-loop
-add-authors-tagged c = search needs
-
-authors-tagged-requires : tie.Need-authors-tagged-requires Inv-loop μ-loop
-authors-tagged-requires c κs = search needs
 
 returns : tie.Need-returns Inv-loop μ-loop
 returns c =
@@ -55,12 +37,6 @@ returns c =
     let k = authorsTagged (a .n) (vertices first t) (a .round + 2) (p - a .b + 1) (a .marks .now) in
     let is : leb (quorum (a .n)) k ≡ directCommit (a .n) (vertices first t) (at (vertices first t) p) = commit-tagged (a .n) t (s .pre .0) (a .round) (a .leader) (a .b) (a .e) p (a .marks .now) (s .pre .1 .1 .1 .1 .1 .1) (l .loop .inv .0) (omega arith) i in
     from-found (vertices first t) (directCommit (a .n) (vertices first t)) (a .b) (a .e) p (l .loop .inv .0) (omega arith) (l .loop .inv .2) (sym is ∙ le-leb (quorum (a .n)) k (omega (arith, c .if1 .taken, c .before .authors-tagged .ensures, l .before .quorum-of .ensures)))
-
-add-p : tie.Need-add-p Inv-loop μ-loop
-add-p c = search needs
-
-loop-less : tie.Need-loop-less Inv-loop μ-loop
-loop-less c = search needs
 
 loop-again : tie.Need-loop-again Inv-loop μ-loop
 loop-again c =
@@ -90,15 +66,10 @@ commit-in-spec =
     (tie.spec
     Inv-loop
     μ-loop
-    quorum-of-requires
+    (λ c κs. search needs)
     loop-holds
-    sub-tag
-    cast-tag
-    add-tag
-    add-authors-tagged
-    authors-tagged-requires
+    (λ c. search needs) (λ c. search needs) (λ c. search needs) (λ c. search needs) (λ c κs. search needs)
     returns
-    add-p
-    loop-less
+    (λ c. search needs) (λ c. search needs)
     loop-again
     returns-2)

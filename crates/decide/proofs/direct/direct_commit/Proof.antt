@@ -23,15 +23,6 @@ Inv-loop n table round leader marks₀ end b₀ marks b = (b₀ ≤ b) × (b ≤
 abbrev μ-loop : tie.MeasureT-loop
 μ-loop n table round leader marks₀ end b₀ marks b = end - b
 
-add-begin : tie.Need-add-begin Inv-loop μ-loop
-add-begin c = search needs
-
-begin-requires : tie.Need-begin-requires Inv-loop μ-loop
-begin-requires c κs = search needs
-
-begin-requires-2 : tie.Need-begin-requires-2 Inv-loop μ-loop
-begin-requires-2 c κs = search needs
-
 loop-holds : tie.Need-loop-holds Inv-loop μ-loop
 loop-holds c =
     let s = c .before .before .before .before in
@@ -46,9 +37,6 @@ add-smaller c =
     let s = b .before .before .before in
     let a = s .args in
     record { fits = omega (arith, b .begin .ensures, start-bound (a .n) (a .table .now) (s .pre .0) (a .round) (a .leader + 1), record-limit (a .n) (a .table .now) (s .pre .0)) }
-
-smaller-requires : tie.Need-smaller-requires Inv-loop μ-loop
-smaller-requires c κs = search needs
 
 tag-certified-requires : tie.Need-tag-certified-requires Inv-loop μ-loop
 tag-certified-requires c κs =
@@ -147,12 +135,10 @@ direct-commit-spec =
     (tie.spec
     Inv-loop
     μ-loop
-    add-begin
-    begin-requires
-    begin-requires-2
+    (λ c. search needs) (λ c κs. search needs) (λ c κs. search needs)
     loop-holds
     add-smaller
-    smaller-requires
+    (λ c κs. search needs)
     tag-certified-requires
     commit-in-requires
     same-length

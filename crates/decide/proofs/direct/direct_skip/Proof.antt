@@ -5,21 +5,6 @@ use borrow.Author.Needs.{needs}
 use Rattle.decide.proofs.direct.direct_skip.Statement.{statement}
 use Rattle.decide.proofs.direct.direct_skip.Tie as tie
 
-tag-blank-requires : tie.Need-tag-blank-requires
-tag-blank-requires c κs = search needs
-
-quorum-of-requires : tie.Need-quorum-of-requires
-quorum-of-requires c κs = search needs
-
-add-authors-tagged : tie.Need-add-authors-tagged
-add-authors-tagged c = search needs
-
-authors-tagged-requires : tie.Need-authors-tagged-requires
-authors-tagged-requires c κs = search needs
-
-same-length : tie.Need-same-length
-same-length c = search needs
-
 returns : tie.Need-returns
 returns c =
     let b = c .before .before .before .before .before in
@@ -33,9 +18,5 @@ pub direct-skip-spec : {M : Type 1} → statement M
 direct-skip-spec =
     tie.close
     (tie.spec
-    tag-blank-requires
-    quorum-of-requires
-    add-authors-tagged
-    authors-tagged-requires
-    same-length
+    (λ c κs. search needs) (λ c κs. search needs) (λ c. search needs) (λ c κs. search needs) (λ c. search needs)
     returns)

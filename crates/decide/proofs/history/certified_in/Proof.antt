@@ -26,18 +26,6 @@ Inv-loop n table round leader a done marks end w₀ best₀ w best =
 abbrev μ-loop : tie.MeasureT-loop
 μ-loop n table round leader a done marks end w₀ best₀ w best = end - w
 
-add-begin : tie.Need-add-begin Inv-loop μ-loop
-add-begin c = search needs
-
-begin-requires : tie.Need-begin-requires Inv-loop μ-loop
-begin-requires c κs = search needs
-
-add-begin-2 : tie.Need-add-begin-2 Inv-loop μ-loop
-add-begin-2 c = search needs
-
-begin-requires-2 : tie.Need-begin-requires-2 Inv-loop μ-loop
-begin-requires-2 c κs = search needs
-
 loop-holds : tie.Need-loop-holds Inv-loop μ-loop
 loop-holds c =
     let s = c .before .before .before .before in
@@ -72,15 +60,6 @@ certified-at-requires c κs =
     let at-end : b .begin .result ≡ startOf t (r + 3) 0 = b .begin .ensures in
     let here = two-up-in n t ok r (s .args .leader) (s .args .a) la (l .loop .w) (l .loop .inv .0) (omega arith) in
     (ok, (here .within, here .round))
-
-smaller-requires : tie.Need-smaller-requires Inv-loop μ-loop
-smaller-requires c κs = search needs
-
-add-w : tie.Need-add-w Inv-loop μ-loop
-add-w c = search needs
-
-loop-less : tie.Need-loop-less Inv-loop μ-loop
-loop-less c = search needs
 
 loop-again : tie.Need-loop-again Inv-loop μ-loop
 loop-again c =
@@ -125,15 +104,10 @@ certified-in-spec =
     (tie.spec
     Inv-loop
     μ-loop
-    add-begin
-    begin-requires
-    add-begin-2
-    begin-requires-2
+    (λ c. search needs) (λ c κs. search needs) (λ c. search needs) (λ c κs. search needs)
     loop-holds
     shared-slice-read-if1
     certified-at-requires
-    smaller-requires
-    add-w
-    loop-less
+    (λ c κs. search needs) (λ c. search needs) (λ c. search needs)
     loop-again
     returns)

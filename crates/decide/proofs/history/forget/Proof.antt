@@ -19,28 +19,10 @@ abbrev μ-loop : tie.MeasureT-loop
 loop-holds : tie.Need-loop-holds Inv-loop μ-loop
 loop-holds c = (refl, omega arith, λ i l. absurd (omega arith))
 
-slice-read-without-history : tie.Need-slice-read-without-history Inv-loop μ-loop
-slice-read-without-history c = search needs
-
-without-history-requires : tie.Need-without-history-requires Inv-loop μ-loop
-without-history-requires c κs = search needs
-
-slice-write-marks : tie.Need-slice-write-marks Inv-loop μ-loop
-slice-write-marks c = search needs
-
-add-q : tie.Need-add-q Inv-loop μ-loop
-add-q c = search needs
-
-loop-less : tie.Need-loop-less Inv-loop μ-loop
-loop-less c = search needs
-
 loop-again : tie.Need-loop-again Inv-loop μ-loop
 loop-again c =
     let l = c .before .before .before in
     (simp length-set (l .loop .inv .0), omega arith, forget-next (l .loop .marks) (l .loop .q) _ (omega arith) (c .without-history .ensures) (l .loop .inv .2))
-
-same-length : tie.Need-same-length Inv-loop μ-loop
-same-length c = search needs
 
 returns : tie.Need-returns Inv-loop μ-loop
 returns c =
@@ -55,11 +37,7 @@ forget-spec =
     Inv-loop
     μ-loop
     loop-holds
-    slice-read-without-history
-    without-history-requires
-    slice-write-marks
-    add-q
-    loop-less
+    (λ c. search needs) (λ c κs. search needs) (λ c. search needs) (λ c. search needs) (λ c. search needs)
     loop-again
-    same-length
+    (λ c. search needs)
     returns)

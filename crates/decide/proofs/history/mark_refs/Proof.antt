@@ -19,35 +19,11 @@ Inv-loop n table p marks₀ v refs k i₀ marks i = (i ≤ k) × (length marks �
 abbrev μ-loop : tie.MeasureT-loop
 μ-loop n table p marks₀ v refs k i₀ marks i = k - i
 
-mul-decode : tie.Need-mul-decode Inv-loop μ-loop
-mul-decode c = search needs
-
-mul-decode-2 : tie.Need-mul-decode-2 Inv-loop μ-loop
-mul-decode-2 c = search needs
-
-add-decode : tie.Need-add-decode Inv-loop μ-loop
-add-decode c = search needs
-
-sub-decode : tie.Need-sub-decode Inv-loop μ-loop
-sub-decode c = search needs
-
-part-decode-start : tie.Need-part-decode-start Inv-loop μ-loop
-part-decode-start c = search needs
-
-part-decode-end : tie.Need-part-decode-end Inv-loop μ-loop
-part-decode-end c = search needs
-
-decode-requires : tie.Need-decode-requires Inv-loop μ-loop
-decode-requires c κs = search needs
-
 loop-holds : tie.Need-loop-holds Inv-loop μ-loop
 loop-holds c =
     let k = c .before .before .before in
     let s = k .before .before in
     (omega arith, refl, marked-none (vertices first (s .args .table .now)) (s .args .p) (s .args .marks .now) (λ q. omega (arith, k .slice-known .given q)))
-
-mul-mark : tie.Need-mul-mark Inv-loop μ-loop
-mul-mark c = search needs
 
 array-read-mark : tie.Need-array-read-mark Inv-loop μ-loop
 array-read-mark c =
@@ -63,32 +39,17 @@ sub-t24 c =
     let level : d .decode .result .round ≡ at (vertices first t) (s .args .p) .round = ap (λ (v : Vertex). v .round) is in
     omega (arith, level, round-pos (accepted first (s .args .n) t (s .pre .0)) (s .args .p) (within (s .args .n) t (s .pre .0) (s .args .p) (s .pre .1 .0)))
 
-cast-t25 : tie.Need-cast-t25 Inv-loop μ-loop
-cast-t25 c = search needs
-
-find-requires : tie.Need-find-requires Inv-loop μ-loop
-find-requires c κs = search needs
-
 slice-read-with-history : tie.Need-slice-read-with-history Inv-loop μ-loop
 slice-read-with-history c =
     let l = c .before .before .before .before .before .before in
     let s = l .before .before .before .before .before .before in
     omega (arith, l .loop .inv .1, s .pre .1 .0, s .pre .1 .1)
 
-with-history-requires : tie.Need-with-history-requires Inv-loop μ-loop
-with-history-requires c κs = search needs
-
 slice-write-marks : tie.Need-slice-write-marks Inv-loop μ-loop
 slice-write-marks c =
     let l = c .before .before .before .before .before .before .before in
     let s = l .before .before .before .before .before .before in
     omega (arith, l .loop .inv .1, s .pre .1 .0, s .pre .1 .1)
-
-add-i : tie.Need-add-i Inv-loop μ-loop
-add-i c = search needs
-
-loop-less : tie.Need-loop-less Inv-loop μ-loop
-loop-less c = search needs
 
 loop-again : tie.Need-loop-again Inv-loop μ-loop
 loop-again c =
@@ -116,9 +77,6 @@ loop-again c =
     (omega arith, rw (w .1) (l .loop .inv .1), rw (w .1) (marked-skip A p lp (s .args .marks .now) m i empty (l .loop .inv .2)))))
     (c .if1 .came)
 
-same-length : tie.Need-same-length Inv-loop μ-loop
-same-length c = search needs
-
 returns : tie.Need-returns Inv-loop μ-loop
 returns c =
     let l = c .before in
@@ -135,24 +93,17 @@ mark-refs-spec =
     (tie.spec
     Inv-loop
     μ-loop
-    mul-decode
-    mul-decode-2
-    add-decode
-    sub-decode
-    part-decode-start
-    part-decode-end
-    decode-requires
+    (λ c. search needs) (λ c. search needs) (λ c. search needs) (λ c. search needs) (λ c. search needs)
+    (λ c. search needs) (λ c κs. search needs)
     loop-holds
-    mul-mark
+    (λ c. search needs)
     array-read-mark
     sub-t24
-    cast-t25
-    find-requires
+    (λ c. search needs) (λ c κs. search needs)
     slice-read-with-history
-    with-history-requires
+    (λ c κs. search needs)
     slice-write-marks
-    add-i
-    loop-less
+    (λ c. search needs) (λ c. search needs)
     loop-again
-    same-length
+    (λ c. search needs)
     returns)

@@ -11,21 +11,6 @@ use borrow.Author.Needs.{needs}
 use Rattle.decide.proofs.history.start.Statement.{statement}
 use Rattle.decide.proofs.history.start.Tie as tie
 
-forget-requires : tie.Need-forget-requires
-forget-requires c κs = search needs
-
-slice-read-with-history : tie.Need-slice-read-with-history
-slice-read-with-history c = search needs
-
-with-history-requires : tie.Need-with-history-requires
-with-history-requires c κs = search needs
-
-slice-write-marks : tie.Need-slice-write-marks
-slice-write-marks c = search needs
-
-same-length : tie.Need-same-length
-same-length c = search needs
-
 returns : tie.Need-returns
 returns c =
     let f = c .before .before .before .before in
@@ -39,9 +24,5 @@ pub start-spec : {M : Type 1} → statement M
 start-spec =
     tie.close
     (tie.spec
-    forget-requires
-    slice-read-with-history
-    with-history-requires
-    slice-write-marks
-    same-length
+    (λ c κs. search needs) (λ c. search needs) (λ c κs. search needs) (λ c. search needs) (λ c. search needs)
     returns)

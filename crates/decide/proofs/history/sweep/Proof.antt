@@ -24,9 +24,6 @@ loop-holds c =
     let s = c .before .before in
     (s .pre .1 .0, refl, s .pre .1 .1 .1)
 
-sub-p : tie.Need-sub-p Inv-loop μ-loop
-sub-p c = search needs
-
 slice-read-if1 : tie.Need-slice-read-if1 Inv-loop μ-loop
 slice-read-if1 c =
     let l = c .before .before in
@@ -42,9 +39,6 @@ mark-refs-requires c κs =
     let room : records first t ≤ length (l .loop .marks) = omega (arith, l .loop .inv .1, s .pre .1 .1 .0) in
     (s .pre .0, (low, room))
 
-loop-less : tie.Need-loop-less Inv-loop μ-loop
-loop-less c = search needs
-
 loop-again : tie.Need-loop-again Inv-loop μ-loop
 loop-again c =
     let r = c .before .before in
@@ -55,9 +49,6 @@ loop-again c =
     let m = r .mark-refs .last .1 .1 .1 .0 in
     (omega arith, r .mark-refs .ensures .0 ∙ l .loop .inv .1, swept-next (accepted first (s .args .n) t (s .pre .0)) (s .args .a) (l .loop .p - 1) (l .loop .marks) (subst (λ x. Swept (vertices first t) (s .args .a) x (l .loop .marks)) e (l .loop .inv .2)) m (r .before .before .if1 .taken) (λ q h. r .mark-refs .ensures .1 q (rw (vertices-length first t) at h)))
 
-loop-less-2 : tie.Need-loop-less-2 Inv-loop μ-loop
-loop-less-2 c = search needs
-
 loop-again-2 : tie.Need-loop-again-2 Inv-loop μ-loop
 loop-again-2 c =
     let l = c .before .before .before in
@@ -65,9 +56,6 @@ loop-again-2 c =
     let t = s .args .table .now in
     let e : l .loop .p ≡ suc (l .loop .p - 1) = omega arith in
     (omega arith, l .loop .inv .1, swept-same (accepted first (s .args .n) t (s .pre .0)) (s .args .a) (l .loop .p - 1) (l .loop .marks) (subst (λ x. Swept (vertices first t) (s .args .a) x (l .loop .marks)) e (l .loop .inv .2)) (omega arith))
-
-same-length : tie.Need-same-length Inv-loop μ-loop
-same-length c = search needs
 
 returns : tie.Need-returns Inv-loop μ-loop
 returns c =
@@ -83,12 +71,12 @@ sweep-spec =
     Inv-loop
     μ-loop
     loop-holds
-    sub-p
+    (λ c. search needs)
     slice-read-if1
     mark-refs-requires
-    loop-less
+    (λ c. search needs)
     loop-again
-    loop-less-2
+    (λ c. search needs)
     loop-again-2
-    same-length
+    (λ c. search needs)
     returns)

@@ -18,15 +18,6 @@ returns c =
     let within : s .args .walk .anchor < length vs = omega (arith, c .if1 .taken, s .pre .1 .0, vertices-length first (s .args .table .now)) in
     (refl, subst (λ (x : ℕ). Swept vs x (s .args .walk .done) (s .args .marks .now)) (c .if1 .taken) (s .pre .1 .1 .1 within))
 
-start-requires : tie.Need-start-requires
-start-requires c κs = search needs
-
-add-result : tie.Need-add-result
-add-result c = search needs
-
-same-length : tie.Need-same-length
-same-length c = search needs
-
 returns-2 : tie.Need-returns-2
 returns-2 c =
     let r = c .before .before in
@@ -34,4 +25,4 @@ returns-2 c =
     (r .start .ensures .0, rw (add-one (s .args .a)) (r .start .ensures .1))
 
 pub take-up-spec : {M : Type 1} → statement M
-take-up-spec = tie.close (tie.spec returns start-requires add-result same-length returns-2)
+take-up-spec = tie.close (tie.spec returns (λ c κs. search needs) (λ c. search needs) (λ c. search needs) returns-2)

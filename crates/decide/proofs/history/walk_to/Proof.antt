@@ -9,12 +9,6 @@ use borrow.Author.Needs.{needs}
 use Rattle.decide.proofs.history.walk_to.Statement.{statement}
 use Rattle.decide.proofs.history.walk_to.Tie as tie
 
-take-up-requires : tie.Need-take-up-requires
-take-up-requires c κs = search needs
-
-same-length : tie.Need-same-length
-same-length c = search needs
-
 returns : tie.Need-returns
 returns c =
     let r = c .before .before .before in
@@ -27,9 +21,6 @@ sweep-requires c κs =
     let room : records first (s .args .table .now) ≤ length (r .take-up .last .1 .1 .1 .1 .0) = omega (arith, r .take-up .ensures .0, s .pre .1 .1 .1 .0) in
     (s .pre .0, (omega arith, (room, r .take-up .ensures .1)))
 
-same-length-2 : tie.Need-same-length-2
-same-length-2 c = search needs
-
 returns-2 : tie.Need-returns-2
 returns-2 c =
     let w = c .before .before in
@@ -39,4 +30,4 @@ returns-2 c =
 pub walk-to-spec : {M : Type 1} → statement M
 walk-to-spec =
     tie.close
-    (tie.spec take-up-requires same-length returns sweep-requires same-length-2 returns-2)
+    (tie.spec (λ c κs. search needs) (λ c. search needs) returns sweep-requires (λ c. search needs) returns-2)

@@ -8,9 +8,6 @@ use borrow.Author.Needs.{needs}
 use Rattle.decide.proofs.range.begin.Statement.{statement}
 use Rattle.decide.proofs.range.begin.Tie as tie
 
-place-requires : tie.Need-place-requires
-place-requires c κs = search needs
-
 returns : tie.Need-returns
 returns c =
     let k = length (c .before .before .args .table .now) / 138 in
@@ -18,4 +15,4 @@ returns c =
     rw e at (c .place .ensures)
 
 pub begin-spec : {M : Type 1} → statement M
-begin-spec = tie.close (tie.spec place-requires returns)
+begin-spec = tie.close (tie.spec (λ c κs. search needs) returns)

@@ -24,9 +24,6 @@ Inv-loop n table cells₀ marks₀ walk₀ round₀ cells marks walk round =
 abbrev μ-loop : tie.MeasureT-loop
 μ-loop n table cells₀ marks₀ walk₀ round₀ cells marks walk round = round
 
-highest-of-requires : tie.Need-highest-of-requires Inv-loop μ-loop
-highest-of-requires c κs = search needs
-
 loop-holds : tie.Need-loop-holds Inv-loop μ-loop
 loop-holds c =
     let s = c .before .before .before .before in
@@ -49,9 +46,6 @@ cast-cells c =
     let s = l .before .before .before .before .before in
     omega (arith, l .loop .inv .0, highest-limit (s .args .n) (s .args .table .now) (s .pre .0))
 
-sub-cells : tie.Need-sub-cells Inv-loop μ-loop
-sub-cells c = search needs
-
 mul-cells : tie.Need-mul-cells Inv-loop μ-loop
 mul-cells c =
     let l = c .before .before .before .before .before .before in
@@ -63,12 +57,6 @@ slice-write-cells c =
     let l = c .before .before .before .before .before .before in
     let s = l .before .before .before .before .before in
     omega (arith, l .loop .inv .0, l .loop .inv .1 .same-length, s .pre .1 .0)
-
-sub-round : tie.Need-sub-round Inv-loop μ-loop
-sub-round c = search needs
-
-loop-less : tie.Need-loop-less Inv-loop μ-loop
-loop-less c = search needs
 
 loop-again : tie.Need-loop-again Inv-loop μ-loop
 loop-again c =
@@ -100,15 +88,14 @@ decide-all-spec =
     (tie.spec
     Inv-loop
     μ-loop
-    highest-of-requires
+    (λ c κs. search needs)
     loop-holds
     decide-round-requires
     cast-cells
-    sub-cells
+    (λ c. search needs)
     mul-cells
     slice-write-cells
-    sub-round
-    loop-less
+    (λ c. search needs) (λ c. search needs)
     loop-again
     same-length
     same-length-2

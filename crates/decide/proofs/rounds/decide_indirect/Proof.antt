@@ -12,18 +12,6 @@ use borrow.Author.Needs.{needs}
 use Rattle.decide.proofs.rounds.decide_indirect.Statement.{statement}
 use Rattle.decide.proofs.rounds.decide_indirect.Tie as tie
 
-highest-of-requires : tie.Need-highest-of-requires
-highest-of-requires c κs = search needs
-
-cast-top : tie.Need-cast-top
-cast-top c = search needs
-
-add-stop-at : tie.Need-add-stop-at
-add-stop-at c = search needs
-
-stop-at-requires : tie.Need-stop-at-requires
-stop-at-requires c κs = search needs
-
 returns : tie.Need-returns
 returns c =
     let T = c .before in
@@ -38,12 +26,6 @@ returns c =
     let past : highest (vertices first t) ≤ T .stop-at .result = omega (arith, H .highest-of .ensures, c .if1 .taken) in
     let none = anchor-past n t (s .pre .0) round (s .pre .1 .0) cells told (T .stop-at .result) e past in
     (refl, (indirect-open n (vertices first t) (round - 1) _ none, s .pre .1 .1 .1 .1 .1 .1))
-
-mul-c : tie.Need-mul-c
-mul-c c = search needs
-
-shared-slice-read-c : tie.Need-shared-slice-read-c
-shared-slice-read-c c = search needs
 
 returns-2 : tie.Need-returns-2
 returns-2 c =
@@ -93,9 +75,6 @@ through-anchor-requires c κs =
     let low : round ≤ 1400 = omega (arith, s .pre .1 .1 .0, highest-limit n t (s .pre .0)) in
     (s .pre .0, (s .pre .1 .0, (low, (found .1 .within, (found .1 .above, (s .pre .1 .1 .1 .1 .1 .0, s .pre .1 .1 .1 .1 .1 .1))))))
 
-same-length : tie.Need-same-length
-same-length c = search needs
-
 returns-3 : tie.Need-returns-3
 returns-3 c =
     let T = c .before .before .before .before .before .before .before in
@@ -116,16 +95,12 @@ pub decide-indirect-spec : {M : Type 1} → statement M
 decide-indirect-spec =
     tie.close
     (tie.spec
-    highest-of-requires
-    cast-top
-    add-stop-at
-    stop-at-requires
+    (λ c κs. search needs) (λ c. search needs) (λ c. search needs) (λ c κs. search needs)
     returns
-    mul-c
-    shared-slice-read-c
+    (λ c. search needs) (λ c. search needs)
     returns-2
     cast-through-anchor
     sub-through-anchor
     through-anchor-requires
-    same-length
+    (λ c. search needs)
     returns-3)

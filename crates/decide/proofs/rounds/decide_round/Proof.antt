@@ -43,9 +43,6 @@ cell-of-requires c κs =
     let ok = s .pre .0 in
     record-limit n t ok
 
-same-length : tie.Need-same-length
-same-length c = search needs
-
 returns : tie.Need-returns
 returns c =
     let s = c .before .before .before .before .before .before .before .before .before .before in
@@ -70,9 +67,6 @@ direct-skip-requires c κs =
     let D = c .before .before .before .before .direct-commit in
     let room : records first t ≤ length (D .last .1 .1 .1 .1 .0) = omega (arith, D .ensures .1 .same-length, s .pre .1 .1 .1 .1 .1 .0) in
     (ok, (low, room))
-
-same-length-2 : tie.Need-same-length-2
-same-length-2 c = search needs
 
 returns-2 : tie.Need-returns-2
 returns-2 c =
@@ -108,9 +102,6 @@ decide-indirect-requires c κs =
     let room : records first t ≤ length (K .last .1 .1 .1 .1 .0) = omega (arith, same-length, s .pre .1 .1 .1 .1 .1 .0) in
     (ok, (s .pre .1 .0, (s .pre .1 .1 .0, (s .pre .1 .1 .1 .0, (s .pre .1 .1 .1 .1 .0, (room, walked-on))))))
 
-same-length-3 : tie.Need-same-length-3
-same-length-3 c = search needs
-
 returns-3 : tie.Need-returns-3
 returns-3 c =
     let s = c .before .before .before .before .before .before .before .before .before .before .before .before .before .before .before .before .before .before in
@@ -136,11 +127,11 @@ decide-round-spec =
     leader-of-requires
     direct-commit-requires
     cell-of-requires
-    same-length
+    (λ c. search needs)
     returns
     direct-skip-requires
-    same-length-2
+    (λ c. search needs)
     returns-2
     decide-indirect-requires
-    same-length-3
+    (λ c. search needs)
     returns-3)

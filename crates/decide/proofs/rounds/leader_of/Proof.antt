@@ -8,12 +8,6 @@ use borrow.Author.Needs.{needs}
 use Rattle.decide.proofs.rounds.leader_of.Statement.{statement}
 use Rattle.decide.proofs.rounds.leader_of.Tie as tie
 
-sub-result : tie.Need-sub-result
-sub-result c = search needs
-
-rem-result : tie.Need-rem-result
-rem-result c = search needs
-
 cast-result : tie.Need-cast-result
 cast-result c = omega (arith, mod-lt (c .args .round - 1) {m = c .args .n} (omega arith))
 
@@ -22,4 +16,4 @@ unfolding leader
 returns c = refl
 
 pub leader-of-spec : {M : Type 1} → statement M
-leader-of-spec = tie.close (tie.spec sub-result rem-result cast-result returns)
+leader-of-spec = tie.close (tie.spec (λ c. search needs) (λ c. search needs) cast-result returns)

@@ -16,12 +16,6 @@ leader-of-requires c κs =
     let least = author-least (s .args .n) (s .args .table .now) (s .pre .0) in
     (omega arith, omega arith)
 
-add-begin : tie.Need-add-begin
-add-begin c = search needs
-
-begin-requires : tie.Need-begin-requires
-begin-requires c κs = search needs
-
 walk-to-requires : tie.Need-walk-to-requires
 walk-to-requires c κs =
     let b = c .before in
@@ -42,9 +36,6 @@ cell-of-requires c κs =
     let s = c .before .before .before .before .before .before .before .before .before .before in
     record-limit (s .args .n) (s .args .table .now) (s .pre .0)
 
-same-length : tie.Need-same-length
-same-length c = search needs
-
 returns : tie.Need-returns
 returns c =
     let i = c .before in
@@ -61,10 +52,9 @@ through-anchor-spec =
     tie.close
     (tie.spec
     leader-of-requires
-    add-begin
-    begin-requires
+    (λ c. search needs) (λ c κs. search needs)
     walk-to-requires
     certified-in-requires
     cell-of-requires
-    same-length
+    (λ c. search needs)
     returns)

@@ -25,15 +25,6 @@ abbrev μ-loop : tie.MeasureT-loop
 loop-holds : tie.Need-loop-holds Inv-loop μ-loop
 loop-holds c = let a = c .before .before .args in (omega arith, omega arith, sym (count-start (authorTagged (vertices first (a .table .now)) (a .round) (a .tag) (a .marks .now))))
 
-begin-requires : tie.Need-begin-requires Inv-loop μ-loop
-begin-requires c κs = search needs
-
-add-begin : tie.Need-add-begin Inv-loop μ-loop
-add-begin c = search needs
-
-begin-requires-2 : tie.Need-begin-requires-2 Inv-loop μ-loop
-begin-requires-2 c κs = search needs
-
 count-tagged-requires : tie.Need-count-tagged-requires Inv-loop μ-loop
 count-tagged-requires c κs =
     let l = c .before .before .before in
@@ -42,18 +33,6 @@ count-tagged-requires c κs =
     let t = a .table .now in
     let m : startOf t (a .round) (l .loop .a) ≤ startOf t (a .round) (l .loop .a + 1) = start-mono (a .n) t (s .pre .0) (a .round) (l .loop .a) (a .round) (l .loop .a + 1) (inr (refl, omega arith)) in
     (omega (arith, m, c .before .begin .ensures, c .begin2 .ensures), omega (arith, s .pre .1, c .begin2 .ensures, start-bound (a .n) t (s .pre .0) (a .round) (l .loop .a + 1)))
-
-once-requires : tie.Need-once-requires Inv-loop μ-loop
-once-requires c κs = search needs
-
-add-c : tie.Need-add-c Inv-loop μ-loop
-add-c c = search needs
-
-add-a : tie.Need-add-a Inv-loop μ-loop
-add-a c = search needs
-
-loop-less : tie.Need-loop-less Inv-loop μ-loop
-loop-less c = search needs
 
 loop-again : tie.Need-loop-again Inv-loop μ-loop
 loop-again c =
@@ -80,13 +59,8 @@ authors-tagged-spec =
     Inv-loop
     μ-loop
     loop-holds
-    begin-requires
-    add-begin
-    begin-requires-2
+    (λ c κs. search needs) (λ c. search needs) (λ c κs. search needs)
     count-tagged-requires
-    once-requires
-    add-c
-    add-a
-    loop-less
+    (λ c κs. search needs) (λ c. search needs) (λ c. search needs) (λ c. search needs)
     loop-again
     returns)

@@ -24,18 +24,6 @@ loop-holds c =
     let e : a .from - a .from ≡ 0 = omega arith in
     (omega arith, omega arith, omega arith, rw e (sym (count-start (taggedFrom (a .marks .now) (a .from) (a .tag)))))
 
-shared-slice-read-if1 : tie.Need-shared-slice-read-if1 Inv-loop μ-loop
-shared-slice-read-if1 c = search needs
-
-add-c : tie.Need-add-c Inv-loop μ-loop
-add-c c = search needs
-
-add-q : tie.Need-add-q Inv-loop μ-loop
-add-q c = search needs
-
-loop-less : tie.Need-loop-less Inv-loop μ-loop
-loop-less c = search needs
-
 loop-again : tie.Need-loop-again Inv-loop μ-loop
 loop-again c =
     let l = c .before .before .before in
@@ -61,9 +49,6 @@ count-tagged-spec =
     Inv-loop
     μ-loop
     loop-holds
-    shared-slice-read-if1
-    add-c
-    add-q
-    loop-less
+    (λ c. search needs) (λ c. search needs) (λ c. search needs) (λ c. search needs)
     loop-again
     returns)

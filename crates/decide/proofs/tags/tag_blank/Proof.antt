@@ -27,18 +27,6 @@ Inv-loop n table round leader marks₀ end q₀ marks q = (q ≤ end) × TaggedT
 abbrev μ-loop : tie.MeasureT-loop
 μ-loop n table round leader marks₀ end q₀ marks q = end - q
 
-add-begin : tie.Need-add-begin Inv-loop μ-loop
-add-begin c = search needs
-
-begin-requires : tie.Need-begin-requires Inv-loop μ-loop
-begin-requires c κs = search needs
-
-add-begin-2 : tie.Need-add-begin-2 Inv-loop μ-loop
-add-begin-2 c = search needs
-
-begin-requires-2 : tie.Need-begin-requires-2 Inv-loop μ-loop
-begin-requires-2 c κs = search needs
-
 loop-holds : tie.Need-loop-holds Inv-loop μ-loop
 loop-holds c =
     let s = c .before .before .before .before in
@@ -51,9 +39,6 @@ entry-at-requires c κs =
     let b = c .before .before .before in
     let s = b .before .before .before in
     omega (arith, b .begin .ensures, start-bound (s .args .n) (s .args .table .now) (s .pre .0) (s .args .round + 2) 0)
-
-blank-tag-requires : tie.Need-blank-tag-requires Inv-loop μ-loop
-blank-tag-requires c κs = search needs
 
 slice-read-with-tag : tie.Need-slice-read-with-tag Inv-loop μ-loop
 slice-read-with-tag c =
@@ -73,12 +58,6 @@ slice-write-marks c =
     let b = l .before .before in
     let s = b .before .before .before in
     omega (arith, l .loop .inv .1 .retagged .same-length, s .pre .1 .1, b .begin .ensures, start-bound (s .args .n) (s .args .table .now) (s .pre .0) (s .args .round + 2) 0)
-
-add-q : tie.Need-add-q Inv-loop μ-loop
-add-q c = search needs
-
-loop-less : tie.Need-loop-less Inv-loop μ-loop
-loop-less c = search needs
 
 loop-again : tie.Need-loop-again Inv-loop μ-loop
 loop-again c =
@@ -108,18 +87,14 @@ tag-blank-spec =
     (tie.spec
     Inv-loop
     μ-loop
-    add-begin
-    begin-requires
-    add-begin-2
-    begin-requires-2
+    (λ c. search needs) (λ c κs. search needs) (λ c. search needs) (λ c κs. search needs)
     loop-holds
     entry-at-requires
-    blank-tag-requires
+    (λ c κs. search needs)
     slice-read-with-tag
     with-tag-requires
     slice-write-marks
-    add-q
-    loop-less
+    (λ c. search needs) (λ c. search needs)
     loop-again
     same-length
     returns)

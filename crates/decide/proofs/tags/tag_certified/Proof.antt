@@ -27,18 +27,6 @@ Inv-loop n table round leader b e marks₀ end w₀ marks w = (w₀ ≤ w) × (w
 abbrev μ-loop : tie.MeasureT-loop
 μ-loop n table round leader b e marks₀ end w₀ marks w = end - w
 
-add-begin : tie.Need-add-begin Inv-loop μ-loop
-add-begin c = search needs
-
-begin-requires : tie.Need-begin-requires Inv-loop μ-loop
-begin-requires c κs = search needs
-
-add-begin-2 : tie.Need-add-begin-2 Inv-loop μ-loop
-add-begin-2 c = search needs
-
-begin-requires-2 : tie.Need-begin-requires-2 Inv-loop μ-loop
-begin-requires-2 c κs = search needs
-
 loop-holds : tie.Need-loop-holds Inv-loop μ-loop
 loop-holds c =
     let s = c .before .before .before .before in
@@ -65,9 +53,6 @@ slice-read-with-tag c =
     let s = b .before .before .before in
     omega (arith, l .loop .inv .2 .retagged .same-length, s .pre .1 .1 .1, b .begin .ensures, start-bound (s .args .n) (s .args .table .now) (s .pre .0) (s .args .round + 3) 0)
 
-window-tag-requires : tie.Need-window-tag-requires Inv-loop μ-loop
-window-tag-requires c κs = search needs
-
 with-tag-requires : tie.Need-with-tag-requires Inv-loop μ-loop
 with-tag-requires c κs =
     let p = c .before .before in
@@ -81,12 +66,6 @@ slice-write-marks c =
     let b = l .before .before in
     let s = b .before .before .before in
     omega (arith, l .loop .inv .2 .retagged .same-length, s .pre .1 .1 .1, b .begin .ensures, start-bound (s .args .n) (s .args .table .now) (s .pre .0) (s .args .round + 3) 0)
-
-add-w : tie.Need-add-w Inv-loop μ-loop
-add-w c = search needs
-
-loop-less : tie.Need-loop-less Inv-loop μ-loop
-loop-less c = search needs
 
 loop-again : tie.Need-loop-again Inv-loop μ-loop
 loop-again c =
@@ -120,18 +99,14 @@ tag-certified-spec =
     (tie.spec
     Inv-loop
     μ-loop
-    add-begin
-    begin-requires
-    add-begin-2
-    begin-requires-2
+    (λ c. search needs) (λ c κs. search needs) (λ c. search needs) (λ c κs. search needs)
     loop-holds
     certified-at-requires
     slice-read-with-tag
-    window-tag-requires
+    (λ c κs. search needs)
     with-tag-requires
     slice-write-marks
-    add-w
-    loop-less
+    (λ c. search needs) (λ c. search needs)
     loop-again
     same-length
     returns)

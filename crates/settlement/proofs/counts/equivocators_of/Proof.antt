@@ -8,9 +8,6 @@ use borrow.Author.Needs.{needs}
 use Rattle.settlement.proofs.counts.equivocators_of.Statement.{statement}
 use Rattle.settlement.proofs.counts.equivocators_of.Tie as tie
 
-split-authors-requires : tie.Need-split-authors-requires
-split-authors-requires c κs = search needs
-
 count-ones-requires : tie.Need-count-ones-requires
 count-ones-requires c κs = let s = c .before .before in accepted first (s .args .n) (s .args .table .now) (s .pre) .few
 
@@ -22,4 +19,4 @@ returns c =
     c .count-ones .ensures ∙ ones-count (vertices first (s .args .table .now)) (s .args .n) (r .split-authors .result) (A .few) (r .split-authors .ensures)
 
 pub equivocators-of-spec : {M : Type 1} → statement M
-equivocators-of-spec = tie.close (tie.spec split-authors-requires count-ones-requires returns)
+equivocators-of-spec = tie.close (tie.spec (λ c κs. search needs) count-ones-requires returns)

@@ -29,34 +29,16 @@ abbrev μ-loop : tie.MeasureT-loop
 loop-holds : tie.Need-loop-holds Inv-loop μ-loop
 loop-holds c = (omega arith, any-start _)
 
-mul-if1 : tie.Need-mul-if1 Inv-loop μ-loop
-mul-if1 c = search needs
-
-shared-slice-read-if1 : tie.Need-shared-slice-read-if1 Inv-loop μ-loop
-shared-slice-read-if1 c = search needs
-
-add-result : tie.Need-add-result Inv-loop μ-loop
-add-result c = search needs
-
 returns : tie.Need-returns Inv-loop μ-loop
 returns c =
     let l = c .before .before .before in
     let a = l .before .args in
     ap (λ (i : ℕ). 1 + i) (first-found (none-at (a .cells .now)) (a .top) (l .loop .t) (omega arith) (l .loop .inv .1) (eq-eqb _ _ (c .if1 .taken)))
 
-add-t : tie.Need-add-t Inv-loop μ-loop
-add-t c = search needs
-
-loop-less : tie.Need-loop-less Inv-loop μ-loop
-loop-less c = search needs
-
 loop-again : tie.Need-loop-again Inv-loop μ-loop
 loop-again c =
     let l = c .before .before .before in
     (omega arith, any-next (none-at (l .before .args .cells .now)) (l .loop .t) (ne-eqb _ _ (c .if1 .left)) (l .loop .inv .1))
-
-add-result-2 : tie.Need-add-result-2 Inv-loop μ-loop
-add-result-2 c = search needs
 
 returns-2 : tie.Need-returns-2 Inv-loop μ-loop
 returns-2 c =
@@ -72,12 +54,9 @@ first-undecided-spec =
     Inv-loop
     μ-loop
     loop-holds
-    mul-if1
-    shared-slice-read-if1
-    add-result
+    (λ c. search needs) (λ c. search needs) (λ c. search needs)
     returns
-    add-t
-    loop-less
+    (λ c. search needs) (λ c. search needs)
     loop-again
-    add-result-2
+    (λ c. search needs)
     returns-2)

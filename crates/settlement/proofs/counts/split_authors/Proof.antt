@@ -23,47 +23,11 @@ abbrev μ-loop : tie.MeasureT-loop
 loop-holds : tie.Need-loop-holds Inv-loop μ-loop
 loop-holds c = (omega arith, omega arith, splits-start (vertices first (c .before .args .table .now)))
 
-sub-twins : tie.Need-sub-twins Inv-loop μ-loop
-sub-twins c = search needs
-
-twins-requires : tie.Need-twins-requires Inv-loop μ-loop
-twins-requires c κs = search needs
-
-mul-byte-at : tie.Need-mul-byte-at Inv-loop μ-loop
-mul-byte-at c = search needs
-
-mul-byte-at-2 : tie.Need-mul-byte-at-2 Inv-loop μ-loop
-mul-byte-at-2 c = search needs
-
-add-byte-at : tie.Need-add-byte-at Inv-loop μ-loop
-add-byte-at c = search needs
-
-sub-byte-at : tie.Need-sub-byte-at Inv-loop μ-loop
-sub-byte-at c = search needs
-
-part-byte-at-start : tie.Need-part-byte-at-start Inv-loop μ-loop
-part-byte-at-start c = search needs
-
-part-byte-at-end : tie.Need-part-byte-at-end Inv-loop μ-loop
-part-byte-at-end c = search needs
-
-byte-at-requires : tie.Need-byte-at-requires Inv-loop μ-loop
-byte-at-requires c κs = search needs
-
-cast-a : tie.Need-cast-a Inv-loop μ-loop
-cast-a c = search needs
-
 array-write-split : tie.Need-array-write-split Inv-loop μ-loop
 array-write-split c =
     let l = c .before .before .before .before .before in
     let s = l .before .before in
     author-few (s .args .n) (s .args .table .now) (l .loop .p) (c .byte-at .result) (s .pre) (omega arith) (c .byte-at .ensures)
-
-add-p : tie.Need-add-p Inv-loop μ-loop
-add-p c = search needs
-
-loop-less : tie.Need-loop-less Inv-loop μ-loop
-loop-less c = search needs
 
 loop-again : tie.Need-loop-again Inv-loop μ-loop
 loop-again c =
@@ -100,18 +64,9 @@ split-authors-spec =
     Inv-loop
     μ-loop
     loop-holds
-    sub-twins
-    twins-requires
-    mul-byte-at
-    mul-byte-at-2
-    add-byte-at
-    sub-byte-at
-    part-byte-at-start
-    part-byte-at-end
-    byte-at-requires
-    cast-a
+    (λ c. search needs) (λ c κs. search needs) (λ c. search needs) (λ c. search needs) (λ c. search needs)
+    (λ c. search needs) (λ c. search needs) (λ c. search needs) (λ c κs. search needs) (λ c. search needs)
     array-write-split
-    add-p
-    loop-less
+    (λ c. search needs) (λ c. search needs)
     loop-again
     returns)

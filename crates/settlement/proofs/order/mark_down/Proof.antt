@@ -18,12 +18,6 @@ Inv-loop n table a taken₀ low₀ p₀ taken low p = Begun (vertices first tabl
 abbrev μ-loop : tie.MeasureT-loop
 μ-loop n table a taken₀ low₀ p₀ taken low p = p
 
-mark-one-requires : tie.Need-mark-one-requires Inv-loop μ-loop
-mark-one-requires c κs = search needs
-
-add-p : tie.Need-add-p Inv-loop μ-loop
-add-p c = search needs
-
 loop-holds : tie.Need-loop-holds Inv-loop μ-loop
 loop-holds c =
     let o = c .before .before in
@@ -36,18 +30,6 @@ loop-holds c =
     let B = begun a w m room (s .pre .1 .1 .1) (o .mark-one .result) (o .mark-one .last .1 .1 .0) (o .mark-one .ensures) in
     let k = begun-length a w m room (s .pre .1 .1 .1) (o .mark-one .result) (o .mark-one .last .1 .1 .0) (o .mark-one .ensures) in
     (B, down-start (accepted first (s .args .n) t (s .pre .0)) a w (o .mark-one .last .1 .1 .0) (omega (arith, room, k)) B (o .mark-one .result) (o .mark-one .ensures .lower))
-
-sub-p : tie.Need-sub-p Inv-loop μ-loop
-sub-p c = search needs
-
-slice-read-if1 : tie.Need-slice-read-if1 Inv-loop μ-loop
-slice-read-if1 c = search needs
-
-mark-more-requires : tie.Need-mark-more-requires Inv-loop μ-loop
-mark-more-requires c κs = search needs
-
-loop-less : tie.Need-loop-less Inv-loop μ-loop
-loop-less c = search needs
 
 loop-again : tie.Need-loop-again Inv-loop μ-loop
 loop-again c =
@@ -65,9 +47,6 @@ loop-again c =
     let B = l .loop .inv .0 in
     (B, down-due A a w m1 (omega (arith, room, k)) B (l .loop .p) (l .loop .low) (l .loop .taken) (omega arith) (l .loop .inv .1) (c .before .before .mark-more .result) (c .before .before .mark-more .last .1 .1 .1 .1 .0) (c .before .before .before .before .if1 .taken) (c .before .before .mark-more .ensures))
 
-loop-less-2 : tie.Need-loop-less-2 Inv-loop μ-loop
-loop-less-2 c = search needs
-
 loop-again-2 : tie.Need-loop-again-2 Inv-loop μ-loop
 loop-again-2 c =
     let l = c .before .before .before in
@@ -83,9 +62,6 @@ loop-again-2 c =
     let A = accepted first (s .args .n) t (s .pre .0) in
     let B = l .loop .inv .0 in
     (B, down-other A a w m1 (omega (arith, room, k)) B (l .loop .p) (l .loop .low) (l .loop .taken) (omega arith) (l .loop .inv .1) (c .if1 .left))
-
-same-length : tie.Need-same-length Inv-loop μ-loop
-same-length c = search needs
 
 returns : tie.Need-returns Inv-loop μ-loop
 returns c =
@@ -109,15 +85,11 @@ mark-down-spec =
     (tie.spec
     Inv-loop
     μ-loop
-    mark-one-requires
-    add-p
+    (λ c κs. search needs) (λ c. search needs)
     loop-holds
-    sub-p
-    slice-read-if1
-    mark-more-requires
-    loop-less
+    (λ c. search needs) (λ c. search needs) (λ c κs. search needs) (λ c. search needs)
     loop-again
-    loop-less-2
+    (λ c. search needs)
     loop-again-2
-    same-length
+    (λ c. search needs)
     returns)

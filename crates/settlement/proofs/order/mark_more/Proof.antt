@@ -22,27 +22,6 @@ Inv-loop n table p low taken₀ v refs k lowest₀ i₀ taken lowest i = (i ≤ 
 abbrev μ-loop : tie.MeasureT-loop
 μ-loop n table p low taken₀ v refs k lowest₀ i₀ taken lowest i = k - i
 
-mul-decode : tie.Need-mul-decode Inv-loop μ-loop
-mul-decode c = search needs
-
-mul-decode-2 : tie.Need-mul-decode-2 Inv-loop μ-loop
-mul-decode-2 c = search needs
-
-add-decode : tie.Need-add-decode Inv-loop μ-loop
-add-decode c = search needs
-
-sub-decode : tie.Need-sub-decode Inv-loop μ-loop
-sub-decode c = search needs
-
-part-decode-start : tie.Need-part-decode-start Inv-loop μ-loop
-part-decode-start c = search needs
-
-part-decode-end : tie.Need-part-decode-end Inv-loop μ-loop
-part-decode-end c = search needs
-
-decode-requires : tie.Need-decode-requires Inv-loop μ-loop
-decode-requires c κs = search needs
-
 loop-holds : tie.Need-loop-holds Inv-loop μ-loop
 loop-holds c =
     let s = c .before .before .before .before .before in
@@ -50,9 +29,6 @@ loop-holds c =
     let w : s .args .p < length (vertices first t) = rw (vertices-length first t) (omega arith) in
     let room : length (vertices first t) ≤ length (s .args .taken .now) = rw (vertices-length first t) (omega arith) in
     (omega arith, more-start (accepted first (s .args .n) t (s .pre .0)) (s .args .p) w (s .args .taken .now) (s .args .low) room)
-
-mul-mark : tie.Need-mul-mark Inv-loop μ-loop
-mul-mark c = search needs
 
 array-read-mark : tie.Need-array-read-mark Inv-loop μ-loop
 array-read-mark c =
@@ -69,12 +45,6 @@ sub-t25 c =
     let w : s .args .p < length (vertices first t) = rw (vertices-length first t) (omega arith) in
     omega (arith, round-pos (accepted first (s .args .n) t (s .pre .0)) (s .args .p) w)
 
-cast-t26 : tie.Need-cast-t26 Inv-loop μ-loop
-cast-t26 c = search needs
-
-find-requires : tie.Need-find-requires Inv-loop μ-loop
-find-requires c κs = search needs
-
 mark-one-requires : tie.Need-mark-one-requires Inv-loop μ-loop
 mark-one-requires c κs =
     let l = c .before .before .before .before .before in
@@ -85,12 +55,6 @@ mark-one-requires c κs =
     let v = d .decode .result in
     let low : c .before .find .result < p = entry-before t (accepted first (s .args .n) t (s .pre .0)) p (omega arith) v (decoded-at t p v (omega arith) (d .decode .ensures)) (l .loop .i) (c .before .before .before .if1 .taken) (c .before .find .result) (c .before .find .ensures) in
     omega (arith, l .loop .inv .1 .kept)
-
-add-i : tie.Need-add-i Inv-loop μ-loop
-add-i c = search needs
-
-loop-less : tie.Need-loop-less Inv-loop μ-loop
-loop-less c = search needs
 
 loop-again : tie.Need-loop-again Inv-loop μ-loop
 loop-again c =
@@ -116,9 +80,6 @@ loop-again c =
     (λ x. (omega arith, rw (x .1, x .2) (more-same A p w m (s .args .low) i (l .loop .lowest) (l .loop .taken) M (sym (ap (λ (u : Vertex). entry u i) is) ∙ x .0 .left))))
     (c .if1 .came)
 
-same-length : tie.Need-same-length Inv-loop μ-loop
-same-length c = search needs
-
 returns : tie.Need-returns Inv-loop μ-loop
 returns c =
     let l = c .before in
@@ -133,22 +94,15 @@ mark-more-spec =
     (tie.spec
     Inv-loop
     μ-loop
-    mul-decode
-    mul-decode-2
-    add-decode
-    sub-decode
-    part-decode-start
-    part-decode-end
-    decode-requires
+    (λ c. search needs) (λ c. search needs) (λ c. search needs) (λ c. search needs) (λ c. search needs)
+    (λ c. search needs) (λ c κs. search needs)
     loop-holds
-    mul-mark
+    (λ c. search needs)
     array-read-mark
     sub-t25
-    cast-t26
-    find-requires
+    (λ c. search needs) (λ c κs. search needs)
     mark-one-requires
-    add-i
-    loop-less
+    (λ c. search needs) (λ c. search needs)
     loop-again
-    same-length
+    (λ c. search needs)
     returns)

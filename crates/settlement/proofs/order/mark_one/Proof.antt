@@ -6,23 +6,11 @@ use borrow.Author.Needs.{needs}
 use Rattle.settlement.proofs.order.mark_one.Statement.{statement}
 use Rattle.settlement.proofs.order.mark_one.Tie as tie
 
-slice-read-if1 : tie.Need-slice-read-if1
-slice-read-if1 c = search needs
-
 returns : tie.Need-returns
 returns c = let a = c .before .before .args in one-kept (a .q) (a .low) (a .taken .now) (c .if1 .taken)
 
-slice-write-taken : tie.Need-slice-write-taken
-slice-write-taken c = search needs
-
-same-length : tie.Need-same-length
-same-length c = search needs
-
 returns-2 : tie.Need-returns-2
 returns-2 c = let a = c .before .before .before .args in one-marked (a .q) (a .low) (a .q) (a .taken .now) (c .before .if1 .left) (omega arith) (omega arith)
-
-same-length-2 : tie.Need-same-length-2
-same-length-2 c = search needs
 
 returns-3 : tie.Need-returns-3
 returns-3 c = let a = c .before .before .before .args in one-marked (a .q) (a .low) (a .low) (a .taken .now) (c .before .if1 .left) (omega arith) (omega arith)
@@ -31,10 +19,9 @@ pub mark-one-spec : {M : Type 1} → statement M
 mark-one-spec =
     tie.close
     (tie.spec
-    slice-read-if1
+    (λ c. search needs)
     returns
-    slice-write-taken
-    same-length
+    (λ c. search needs) (λ c. search needs)
     returns-2
-    same-length-2
+    (λ c. search needs)
     returns-3)

@@ -15,9 +15,6 @@ use borrow.Author.Needs.{needs}
 use Rattle.settlement.proofs.order.write_leader.Statement.{statement}
 use Rattle.settlement.proofs.order.write_leader.Tie as tie
 
-mark-down-requires : tie.Need-mark-down-requires
-mark-down-requires c κs = search needs
-
 write-marked-requires : tie.Need-write-marked-requires
 write-marked-requires c κs =
     let d = c .before .before .before .before in
@@ -38,12 +35,6 @@ write-marked-requires c κs =
     let places : s .args .count + countTo (due m₁) (a + 1) ≤ length (s .args .order .now) = omega (arith, room, long) in
     (omega arith, (within, (d .mark-down .ensures .lower, (d .mark-down .ensures .none-below, places))))
 
-same-length : tie.Need-same-length
-same-length c = search needs
-
-same-length-2 : tie.Need-same-length-2
-same-length-2 c = search needs
-
 returns : tie.Need-returns
 returns c =
     let x = c .before .before .before .before in
@@ -59,4 +50,4 @@ returns c =
 
 pub write-leader-spec : {M : Type 1} → statement M
 write-leader-spec =
-    tie.close (tie.spec mark-down-requires write-marked-requires same-length same-length-2 returns)
+    tie.close (tie.spec (λ c κs. search needs) write-marked-requires (λ c. search needs) (λ c. search needs) returns)

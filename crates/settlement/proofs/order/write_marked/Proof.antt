@@ -21,15 +21,6 @@ loop-holds c =
     let a = c .args in
     (omega arith, put-start (a .taken .now) (a .order .now) (a .count) (a .low) (omega arith) (c .pre .1 .1 .1 .0))
 
-slice-read-if1 : tie.Need-slice-read-if1 Inv-loop μ-loop
-slice-read-if1 c = search needs
-
-slice-write-taken : tie.Need-slice-write-taken Inv-loop μ-loop
-slice-write-taken c = search needs
-
-cast-order : tie.Need-cast-order Inv-loop μ-loop
-cast-order c = search needs
-
 mul-order : tie.Need-mul-order Inv-loop μ-loop
 mul-order c =
     let l = c .before .before .before in
@@ -51,12 +42,6 @@ add-c c =
     let room = put-room (a .taken .now) (a .order .now) (a .count) (l .loop .p) (l .loop .c) (l .loop .taken) (l .loop .order) (l .loop .inv .1) (a .a) (omega arith) (omega arith) (l .before .pre .1 .1 .1 .1) (c .if1 .taken) in
     search needs
 
-add-p : tie.Need-add-p Inv-loop μ-loop
-add-p c = search needs
-
-loop-less : tie.Need-loop-less Inv-loop μ-loop
-loop-less c = search needs
-
 loop-again : tie.Need-loop-again Inv-loop μ-loop
 loop-again c =
     let l = c .before .before .before in
@@ -68,12 +53,6 @@ loop-again c =
     (omega arith, rw (x .1, x .2, x .3) (put-yes (a .taken .now) (a .order .now) (a .count) (l .loop .p) (l .loop .c) (l .loop .taken) (l .loop .order) P (omega arith) (omega arith) room (x .0 .taken))))
     (λ x. (omega arith, rw (x .1, x .2, x .3) (put-no (a .taken .now) (a .order .now) (a .count) (l .loop .p) (l .loop .c) (l .loop .taken) (l .loop .order) P (omega arith) (x .0 .left))))
     (c .if1 .came)
-
-same-length : tie.Need-same-length Inv-loop μ-loop
-same-length c = search needs
-
-same-length-2 : tie.Need-same-length-2 Inv-loop μ-loop
-same-length-2 c = search needs
 
 returns : tie.Need-returns Inv-loop μ-loop
 returns c =
@@ -89,15 +68,11 @@ write-marked-spec =
     Inv-loop
     μ-loop
     loop-holds
-    slice-read-if1
-    slice-write-taken
-    cast-order
+    (λ c. search needs) (λ c. search needs) (λ c. search needs)
     mul-order
     slice-write-order
     add-c
-    add-p
-    loop-less
+    (λ c. search needs) (λ c. search needs)
     loop-again
-    same-length
-    same-length-2
+    (λ c. search needs) (λ c. search needs)
     returns)

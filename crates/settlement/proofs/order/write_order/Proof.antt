@@ -5,12 +5,11 @@ use Prim.Native.Nat.{_-_, _≤_}
 use mathlib.Core.Path.{_≡_, sym, ap, _∙_}
 use mathlib.Core.Logic.{⊎-elim}
 use lib.ListN.{length, getD}
-use Rattle.folds.specs.Folds.{countTo}
+use Rattle.folds.specs.Folds.{countTo, bytesOver}
 use Rattle.rules.specs.Record.{first, records, vertices}
 use Rattle.rules.proofs.Records.{vertices-length}
 use Rattle.rules.proofs.Accepted.{accepted}
-use Rattle.decide.specs.Work.{bytesOver}
-use Rattle.decide.proofs.Bytes.{over-at}
+use Rattle.folds.proofs.Over.{over-at}
 use Rattle.settlement.specs.Write.{written}
 use Rattle.settlement.proofs.Ordered.{Upto, upto-start, upto-told, upto-count, upto-skip, upto-commit, upto-stop, upto-end, cell-undecided, cell-skipped, cell-leader}
 use native.Mathlib.Omega.{arith}
@@ -34,18 +33,6 @@ loop-holds c =
     let room : length (vertices first t) ≤ length m = rw long (omega arith) in
     (omega arith, upto-start (g .args .n) (vertices first t) (g .args .order .now) m (omega arith) (λ q lq. ap (λ b. getD b q 0) cleared ∙ over-at (λ i. 0) (length (vertices first t)) m q lq))
 
-mul-c : tie.Need-mul-c Inv-loop μ-loop
-mul-c c = search needs
-
-shared-slice-read-c : tie.Need-shared-slice-read-c Inv-loop μ-loop
-shared-slice-read-c c = search needs
-
-same-length : tie.Need-same-length Inv-loop μ-loop
-same-length c = search needs
-
-same-length-2 : tie.Need-same-length-2 Inv-loop μ-loop
-same-length-2 c = search needs
-
 returns : tie.Need-returns Inv-loop μ-loop
 returns c =
     let l = c .before .before .before in
@@ -68,9 +55,6 @@ cast-write-leader c =
     let l = c .before .before .before .before in
     omega (arith, c .before .before .shared-slice-known3 .given (l .loop .s))
 
-sub-write-leader : tie.Need-sub-write-leader Inv-loop μ-loop
-sub-write-leader c = search needs
-
 write-leader-requires : tie.Need-write-leader-requires Inv-loop μ-loop
 write-leader-requires c κs =
     let l = c .before .before .before .before .before .before in
@@ -90,12 +74,6 @@ write-leader-requires c κs =
     let room′ : records first t ≤ length (l .loop .taken) = omega arith in
     let wide′ : records first t ≤ length (l .loop .order) = omega arith in
     (g .pre .0, (omega (arith, led .1), (wide′, (room′, (upto-told A room wide U, count)))))
-
-add-s : tie.Need-add-s Inv-loop μ-loop
-add-s c = search needs
-
-loop-less : tie.Need-loop-less Inv-loop μ-loop
-loop-less c = search needs
 
 loop-again : tie.Need-loop-again Inv-loop μ-loop
 loop-again c =
@@ -118,12 +96,6 @@ loop-again c =
     (omega arith, rw (x .8, x .9, x .10) (upto-commit A room wide U (getD (g .args .cells .now) j 0 - 2) (led .1) (omega arith) (led .0) (x .3 .result) (x .3 .last .1 .1 .1 .0) (x .3 .last .1 .1 .1 .1 .0) (x .3 .ensures))))
     (λ x. (omega arith, rw (x .1, x .2, x .3) (upto-skip A room wide U (omega arith) (cell-skipped _ (sym holds ∙ x .0 .left)))))
     (c .if2 .came)
-
-same-length-3 : tie.Need-same-length-3 Inv-loop μ-loop
-same-length-3 c = search needs
-
-same-length-4 : tie.Need-same-length-4 Inv-loop μ-loop
-same-length-4 c = search needs
 
 returns-2 : tie.Need-returns-2 Inv-loop μ-loop
 returns-2 c =
@@ -148,17 +120,12 @@ write-order-spec =
     Inv-loop
     μ-loop
     loop-holds
-    mul-c
-    shared-slice-read-c
-    same-length
-    same-length-2
+    (λ c. search needs) (λ c. search needs) (λ c. search needs) (λ c. search needs)
     returns
     cast-write-leader
-    sub-write-leader
+    (λ c. search needs)
     write-leader-requires
-    add-s
-    loop-less
+    (λ c. search needs) (λ c. search needs)
     loop-again
-    same-length-3
-    same-length-4
+    (λ c. search needs) (λ c. search needs)
     returns-2)

@@ -10,10 +10,9 @@ use native.Mathlib.Nat.{le-refl, le-step}
 use native.Mathlib.Numerals.{add-one}
 use lib.ListN.{length, getD, set, drop, length-set, length-append, length-drop, List·getD-append}
 use lib.Seq.{getD-set-same, getD-set-other, ext-getD, drop-at, set-append-left, drop-cons, append-snoc}
-use Rattle.folds.specs.Folds.{_or_, tabulate}
+use Rattle.folds.specs.Folds.{_or_, tabulate, bytesOver}
 use Rattle.folds.proofs.Tests.{compare}
 use Rattle.folds.proofs.Lists.{length-tabulate, getD-tabulate, tabulate-same, tabulate-next, put-next}
-use Rattle.decide.specs.Work.{bytesOver}
 
 -- nothing more
 pub or-last : (b : Bool) → b ≡ b or false

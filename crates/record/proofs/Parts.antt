@@ -1,0 +1,29 @@
+-- The bytes that the code lends of a table are those of the record at a position.
+-- Assumes nothing.
+use Prim.Native.Nat.{ℕ, _+_, _-_, _*_, _/_, _≤_, _<_}
+use mathlib.Core.Path.{_≡_, sym, _∙_}
+use mathlib.Core.List.{List}
+use native.Mathlib.Nat.{le-refl}
+use native.Mathlib.Omega.{arith}
+use lib.ListN.{length, take, drop, length-drop, drop-of-length-le}
+use lib.Seq.{take-all}
+use Rattle.rules.specs.Record.{first, recordAt}
+
+-- of a whole record, as many as it has
+pub own-bytes : (t : List ℕ) (p : ℕ) → take (138 * p + 138 - 138 * p) (drop (138 * p) t) ≡ recordAt first t p
+unfolding recordAt
+own-bytes t p = let e : 138 * p + 138 - 138 * p ≡ 138 = omega arith in rw e
+
+-- past the last whole record, what is left
+pub left-bytes : (t : List ℕ) (p : ℕ) → length t < 138 * p + 138 → take (length t - 138 * p) (drop (138 * p) t) ≡ recordAt first t p
+unfolding recordAt
+left-bytes t p h =
+    let few : length (drop (138 * p) t) ≡ length t - 138 * p = length-drop (138 * p) t in
+    take-all (length t - 138 * p) (drop (138 * p) t) (omega arith) ∙ sym (take-all 138 (drop (138 * p) t) (omega arith))
+
+-- past that, nothing
+pub no-bytes : (t : List ℕ) (p : ℕ) → length t ≤ 138 * p → take (length t - length t) (drop (length t) t) ≡ recordAt first t p
+no-bytes t p h =
+    let none : drop (length t) t ≡ drop (138 * p) t = drop-of-length-le t (le-refl (length t)) ∙ sym (drop-of-length-le t h) in
+    let zero : length t - length t ≡ length t - 138 * p = omega arith in
+    rw (zero, none) (left-bytes t p (omega arith))

@@ -18,10 +18,10 @@ use Rattle.folds.proofs.Laws.{first-unique, any-none, count-cut}
 use Rattle.folds.proofs.Quorum.{some-of}
 use Rattle.rules.specs.declared.Name.{Name}
 use Rattle.rules.specs.declared.Vertex.{Vertex}
-use Rattle.rules.specs.declared.Checked.the-variants.{Passed}
+use Rattle.rules.specs.Refusals.{passed as all-passed}
 use Rattle.rules.specs.Authors.{isCount, faults, quorum}
 use Rattle.rules.specs.Record.{Edition, recordAt, decode, records, vertices, noVertex, at, entry, refers, entryName, nameOf, below, find, vertexOf}
-use Rattle.rules.specs.Check.{fieldsWrong, notAbove, entriesWrong, notEarlier, checkRecord, check}
+use Rattle.rules.specs.Check.{fieldsWrong, notAbove, entriesWrong, notEarlier, checkRecord, checkTable, check}
 use Rattle.rules.specs.Decide.{highest}
 use Rattle.rules.proofs.Names.{same-name, name-same, Below, below-is, below-trans, below-irrefl}
 use Rattle.rules.proofs.Records.{vertices-length, vertices-at, decode-entries, find-first, find-name}
@@ -40,7 +40,7 @@ pub record Accepted (n : ℕ) (vs : List Vertex) : Type 0 where
   pub few : n ≤ 31
   pub each : (p : ℕ) → p < length vs → Fine n vs p
 
-pub record-passed : (E : Edition) (n : ℕ) (t : List ℕ) (p : ℕ) → p < records E t → checkRecord E n t (vertices E t) p ≡ Passed → Fine n (vertices E t) p
+pub record-passed : (E : Edition) (n : ℕ) (t : List ℕ) (p : ℕ) → p < records E t → checkRecord E n t (vertices E t) p ≡ all-passed → Fine n (vertices E t) p
 unfolding checkRecord
 record-passed E n t p l e =
     let e4 = then-both _ _ e in
@@ -49,20 +49,20 @@ record-passed E n t p l e =
     let e7 = then-both _ _ (e6 .1) in
     let e8 = then-both _ _ (e7 .1) in
     record {
-      fields = when-passed _ _ (e5 .0);
-      above = when-passed _ _ (e6 .0);
-      entries = when-passed _ _ (e7 .0);
-      found = when-passed _ _ (e8 .0);
+      fields = when-passed _ _ _ (e5 .0);
+      above = when-passed _ _ _ (e6 .0);
+      entries = when-passed _ _ _ (e7 .0);
+      found = when-passed _ _ _ (e8 .0);
       width = ap (λ v. length (v .refs)) (vertices-at E t p l) ∙ decode-entries E (recordAt E t p);
     }
 
-pub accepted : (E : Edition) (n : ℕ) (t : List ℕ) → check E n t ≡ Passed → Accepted n (vertices E t)
-unfolding check isCount
+pub accepted : (E : Edition) (n : ℕ) (t : List ℕ) → check E n t ≡ all-passed → Accepted n (vertices E t)
+unfolding check checkTable isCount
 accepted E n t e =
     let e1 = then-both _ _ e in
     let e2 = then-both _ _ (e1 .1) in
     let e3 = then-both _ _ (e2 .1) in
-    let good = not-false _ (when-passed _ _ (e1 .0)) in
+    let good = not-false _ (when-passed _ _ _ (e1 .0)) in
     let rest = and-right _ _ good in
     record {
       count = omega (arith, eqb-true (n % 3) 1 (and-right _ _ rest));

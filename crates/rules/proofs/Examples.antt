@@ -6,11 +6,11 @@ use Prim.Native.Nat.{ℕ}
 use mathlib.Core.Bool.{false}
 use lib.Dec.{ltb}
 use lib.ListN.{length}
-use Rattle.rules.specs.declared.Checked.the-variants.{Passed}
+use Rattle.rules.specs.Refusals.{passed}
 use Rattle.rules.specs.Record.{first, sumOf, vertices}
 use Rattle.rules.specs.Check.{check}
 use Rattle.rules.specs.Decide.{boxSetting}
-use Rattle.rules.specs.Settlement.{tooShort, settled, settleIf, settle}
+use Rattle.rules.specs.Settlement.{tooShort, settled, settleIf, lentCheck, settle}
 use Rattle.rules.specs.Program.{holds, lines, printed}
 use Rattle.rules.proofs.Refusals.{then-passed, when-no}
 use Rattle.rules.specs.Tables.{unsummed, p1, p2, p3, p4, p5, p6, p7, p8, p9, p10, p11, p12, p13, p14}
@@ -18,49 +18,49 @@ use Rattle.rules.specs.Examples.{Hold, Answer, answer, nines, a1, a2, a3
 use Rattle.rules.specs.Open.{rules-open}
 
 -- The answer for a table that passes. What is printed and what is settled go through the same check, so that is computed once.
-passed : (t : List ℕ) (a : Answer) → check first 4 t ≡ Passed → ltb holds (length (4 ∷ t)) ≡ false → tooShort (boxSetting 4) (vertices first t) nines ≡ false
-    → lines Passed (boxSetting 4) 4 (vertices first t) ≡ a .prints → settled (boxSetting 4) 4 (vertices first t) nines ≡ a .settles → answer t ≡ a
-unfolding printed settle settleIf
-passed t a c h l e f =
+by-parts : (t : List ℕ) (a : Answer) → check first 4 t ≡ passed → ltb holds (length (4 ∷ t)) ≡ false → tooShort (boxSetting 4) (vertices first t) nines ≡ false
+    → lines passed (boxSetting 4) 4 (vertices first t) ≡ a .prints → settled (boxSetting 4) 4 (vertices first t) nines ≡ a .settles → answer t ≡ a
+unfolding printed settle lentCheck settleIf
+by-parts t a c h l e f =
     let prints = then-passed _ _ (when-no _ _ h) ∙ c in
     let fits = then-passed _ _ c ∙ when-no _ _ l in
     λ i. record { prints = (ap (λ k. lines k (boxSetting 4) 4 (vertices first t)) prints ∙ e) i; settles = (ap (λ k. settleIf k (boxSetting 4) 4 (vertices first t) nines) fits ∙ f) i }
 
 ex1 : answer p1 ≡ a1
 unfolding rules-open p1
-ex1 = passed p1 a1 refl refl refl refl refl
+ex1 = by-parts p1 a1 refl refl refl refl refl
 
 ex2 : answer p2 ≡ a2
 unfolding rules-open p2
-ex2 = passed p2 a2 refl refl refl refl refl
+ex2 = by-parts p2 a2 refl refl refl refl refl
 
 ex3 : answer p3 ≡ a3
 unfolding rules-open p3
-ex3 = passed p3 a3 refl refl refl refl refl
+ex3 = by-parts p3 a3 refl refl refl refl refl
 
 ex4 : answer p4 ≡ a4
 unfolding rules-open p4
-ex4 = passed p4 a4 refl refl refl refl refl
+ex4 = by-parts p4 a4 refl refl refl refl refl
 
 ex5 : answer p5 ≡ a5
 unfolding rules-open p5
-ex5 = passed p5 a5 refl refl refl refl refl
+ex5 = by-parts p5 a5 refl refl refl refl refl
 
 ex6 : answer p6 ≡ a6
 unfolding rules-open p6
-ex6 = passed p6 a6 refl refl refl refl refl
+ex6 = by-parts p6 a6 refl refl refl refl refl
 
 ex7 : answer p7 ≡ a7
 unfolding rules-open p7
-ex7 = passed p7 a7 refl refl refl refl refl
+ex7 = by-parts p7 a7 refl refl refl refl refl
 
 ex8 : answer p8 ≡ a8
 unfolding rules-open p8
-ex8 = passed p8 a8 refl refl refl refl refl
+ex8 = by-parts p8 a8 refl refl refl refl refl
 
 ex9 : answer p9 ≡ a9
 unfolding rules-open p9
-ex9 = passed p9 a9 refl refl refl refl refl
+ex9 = by-parts p9 a9 refl refl refl refl refl
 
 ex10 : answer p10 ≡ a10
 unfolding rules-open p10

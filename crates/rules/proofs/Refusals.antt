@@ -1,125 +1,180 @@
--- How refusals follow one another, and that a refusal is fixed by its number and position.
+-- How checks follow one another, and that what an answer tells fixes the answer.
 -- Assumes nothing.
 use Prim.Native.Nat.{ℕ, zero, suc, _+_, _<_}
 use mathlib.Core.Path.{_≡_, refl, sym, ap, ap₂, _∙_}
 use mathlib.Core.Bool.{Bool, true, false, false≢true, true≢false}
+use mathlib.Core.List.{List, [], _∷_}
 use native.Mathlib.Nat.{le-refl, le-step, not-suc-le-zero, le-of-suc-le-suc, eq-or-lt-of-le}
 use mathlib.Core.Logic.{_⊎_, ⊎-elim}
 use native.Mathlib.Omega.{arith}
 use native.Mathlib.Numerals.{add-one}
+use lib.ListN.{getD}
 use Rattle.rules.specs.declared.Refusal.{Refusal}
 use Rattle.rules.specs.declared.Refusal.the-variants.{Authors, Length, Records, Sum, Fields, Rising, Entries, Earlier, Round, Lent, Unnamed, Input}
 use Rattle.rules.specs.declared.Checked.{Checked}
-use Rattle.rules.specs.declared.Checked.the-variants.{Passed, Refused}
-use Rattle.rules.specs.Refusals.{numberOf, positionOf, _when_, _then_, eachTo}
+use Rattle.rules.specs.declared.Checked.the-variants as checked
+use Rattle.rules.specs.declared.LookupAnswer.{LookupAnswer}
+use Rattle.rules.specs.declared.LookupAnswer.the-variants as answer
+use Rattle.rules.specs.declared.Outcome.{Outcome}
+use Rattle.rules.specs.declared.Outcome.the-variants as outcome
+use Rattle.rules.specs.Refusals.{Told, gives, refused, passed, refusal, numberOf, positionOf, refusalTells, checkTells, lookupTells, outcomeTells, _when_, _then_, eachTo}
 
-pub refused-passed : {r : Refusal} {c : Checked} → c ≡ Refused r → c ≡ Passed → ⊥
-refused-passed p q = let z : _≡_ {A = ℕ} 0 1 = cc in omega arith
+pub refused-gives : {A : Type 0} {k : ℕ} {vs : List ℕ} {a : A} {c : Told A} → c ≡ refused k vs → c ≡ gives a → ⊥
+refused-gives p q = let z : _≡_ {A = ℕ} 0 1 = cc in omega arith
 
 -- ---- one check, and one after another
 
-pub when-yes : (r : Refusal) (b : Bool) → b ≡ true → r when b ≡ Refused r
+pub when-yes : (c : Told (Unit {0})) (b : Bool) → b ≡ true → c when b ≡ c
 unfolding _when_
-when-yes r true e = refl
-when-yes r false e = absurd (false≢true e)
+when-yes c true e = refl
+when-yes c false e = absurd (false≢true e)
 
-pub when-no : (r : Refusal) (b : Bool) → b ≡ false → r when b ≡ Passed
+pub when-no : (c : Told (Unit {0})) (b : Bool) → b ≡ false → c when b ≡ passed
 unfolding _when_
-when-no r false e = refl
-when-no r true e = absurd (true≢false e)
+when-no c false e = refl
+when-no c true e = absurd (true≢false e)
 
-pub when-passed : (r : Refusal) (b : Bool) → r when b ≡ Passed → b ≡ false
+pub when-passed : (k : ℕ) (vs : List ℕ) (b : Bool) → refused k vs when b ≡ passed → b ≡ false
 unfolding _when_
-when-passed r true e = absurd (refused-passed refl e)
-when-passed r false e = refl
+when-passed k vs true e = absurd (refused-gives refl e)
+when-passed k vs false e = refl
 
--- a check that refuses answers
-pub then-refused : {r : Refusal} (c d : Checked) → c ≡ Refused r → c then d ≡ Refused r
-unfolding _then_
-then-refused Passed d e = absurd (refused-passed e refl)
-then-refused (Refused r) d e = e
+module _ {A : Type 0} where
+  -- a check that refuses answers
+  pub then-refused : {k : ℕ} {vs : List ℕ} (c : Told (Unit {0})) (d : Told A) → c ≡ refused k vs → c then d ≡ refused k vs
+  unfolding _then_
+  then-refused (gives a) d e = absurd (refused-gives e refl)
+  then-refused (refused k vs) d e = λ i. told (e i)
+    where
+      told : Told (Unit {0}) → Told A
+      told (gives a) = d
+      told (refused k vs) = refused k vs
 
--- one that is passed leaves the answer to what follows
-pub then-passed : (c d : Checked) → c ≡ Passed → c then d ≡ d
-unfolding _then_
-then-passed Passed d e = refl
-then-passed (Refused r) d e = absurd (refused-passed refl e)
+  -- one that is passed leaves the answer to what follows
+  pub then-passed : (c : Told (Unit {0})) (d : Told A) → c ≡ passed → c then d ≡ d
+  unfolding _then_
+  then-passed (gives a) d e = refl
+  then-passed (refused k vs) d e = absurd (refused-gives refl e)
 
--- all is passed only if both are
-pub then-both : (c d : Checked) → c then d ≡ Passed → (c ≡ Passed) × (d ≡ Passed)
+  -- something is given only if the first is passed
+  pub then-both : {a : A} (c : Told (Unit {0})) (d : Told A) → c then d ≡ gives a → (c ≡ passed) × (d ≡ gives a)
+  unfolding _then_
+  then-both (gives tt) d e = (refl, e)
+  then-both (refused k vs) d e = absurd (refused-gives refl e)
+
+-- what follows a check matters only where that is passed
+pub then-same : {A : Type 0} (c : Told (Unit {0})) (d d′ : Told A) → (c ≡ passed → d ≡ d′) → c then d ≡ c then d′
 unfolding _then_
-then-both Passed d e = (refl, e)
-then-both (Refused r) d e = absurd (refused-passed refl e)
+then-same (gives tt) d d′ h = h refl
+then-same (refused k vs) d d′ h = refl
+
+pub then-assoc : {A : Type 0} (b c : Told (Unit {0})) (d : Told A) → (b then c) then d ≡ b then c then d
+unfolding _then_
+then-assoc (gives tt) c d = refl
+then-assoc (refused k vs) c d = refl
 
 -- ---- the check of each
 
-pub each-start : (c : ℕ → Checked) → eachTo c 0 ≡ Passed
+pub each-start : (c : ℕ → Told (Unit {0})) → eachTo c 0 ≡ passed
 unfolding eachTo
 each-start c = refl
 
-pub each-next : (c : ℕ → Checked) (i : ℕ) → eachTo c (i + 1) ≡ eachTo c i then c i
+pub each-next : (c : ℕ → Told (Unit {0})) (i : ℕ) → eachTo c (i + 1) ≡ eachTo c i then c i
 unfolding eachTo
 each-next c i = rw (add-one i)
 
 -- what one refuses after all before it passed is the answer
-pub each-refused : (c : ℕ → Checked) (r : Refusal) (i k : ℕ) → i < k → eachTo c i ≡ Passed → c i ≡ Refused r → eachTo c k ≡ Refused r
+pub each-refused : (c : ℕ → Told (Unit {0})) (k : ℕ) (vs : List ℕ) (i j : ℕ) → i < j → eachTo c i ≡ passed → c i ≡ refused k vs → eachTo c j ≡ refused k vs
 unfolding eachTo
-each-refused c r i zero l p q = absurd (not-suc-le-zero l)
-each-refused c r i (suc k) l p q = ⊎-elim here (λ h. then-refused _ _ (each-refused c r i k h p q)) (eq-or-lt-of-le (le-of-suc-le-suc l))
+each-refused c k vs i zero l p q = absurd (not-suc-le-zero l)
+each-refused c k vs i (suc j) l p q = ⊎-elim here (λ h. then-refused _ _ (each-refused c k vs i j h p q)) (eq-or-lt-of-le (le-of-suc-le-suc l))
   where
-    here : i ≡ k → eachTo c k then c k ≡ Refused r
+    here : i ≡ j → eachTo c j then c j ≡ refused k vs
     here e = rw (← e) (then-passed (eachTo c i) (c i) p ∙ q)
 
 -- all is passed only if each is
-pub each-passed : (c : ℕ → Checked) (k : ℕ) → eachTo c k ≡ Passed → (i : ℕ) → i < k → c i ≡ Passed
+pub each-passed : (c : ℕ → Told (Unit {0})) (k : ℕ) → eachTo c k ≡ passed → (i : ℕ) → i < k → c i ≡ passed
 unfolding eachTo
 each-passed c zero e i l = absurd (not-suc-le-zero l)
 each-passed c (suc k) e i l = ⊎-elim (λ q. ap c q ∙ both .1) (λ h. each-passed c k (both .0) i h) (eq-or-lt-of-le (le-of-suc-le-suc l))
   where
-    both : (eachTo c k ≡ Passed) × (c k ≡ Passed)
+    both : (eachTo c k ≡ passed) × (c k ≡ passed)
     both = then-both _ _ e
 
 -- and if each is, all is
-pub each-all : (c : ℕ → Checked) (k : ℕ) → ((i : ℕ) → i < k → c i ≡ Passed) → eachTo c k ≡ Passed
+pub each-all : (c : ℕ → Told (Unit {0})) (k : ℕ) → ((i : ℕ) → i < k → c i ≡ passed) → eachTo c k ≡ passed
 unfolding eachTo
 each-all c zero h = refl
 each-all c (suc k) h = then-passed _ _ (each-all c k (λ i l. h i (le-step l))) ∙ h k (le-refl (suc k))
 
--- ---- a refusal is fixed by its number and position
+-- ---- what an answer tells fixes the answer
 
--- the case with a number, given the position
+-- the refusal with a number and a position
 unnumber : ℕ → ℕ → Refusal
-unnumber number p = go number
-  where
-    go : ℕ → Refusal
-    go zero = Input
-    go (suc zero) = Authors
-    go (suc (suc zero)) = Length
-    go (suc (suc (suc zero))) = Records
-    go (suc (suc (suc (suc zero)))) = Sum p
-    go (suc (suc (suc (suc (suc zero))))) = Fields p
-    go (suc (suc (suc (suc (suc (suc zero)))))) = Rising p
-    go (suc (suc (suc (suc (suc (suc (suc zero))))))) = Entries p
-    go (suc (suc (suc (suc (suc (suc (suc (suc zero)))))))) = Earlier p
-    go (suc (suc (suc (suc (suc (suc (suc (suc (suc zero))))))))) = Round p
-    go (suc (suc (suc (suc (suc (suc (suc (suc (suc (suc zero)))))))))) = Lent
-    go (suc (suc (suc (suc (suc (suc (suc (suc (suc (suc (suc zero))))))))))) = Unnamed
-    go (suc (suc (suc (suc (suc (suc (suc (suc (suc (suc (suc (suc k)))))))))))) = Input
+unnumber zero p = Input
+unnumber (suc zero) p = Authors
+unnumber (suc (suc zero)) p = Length
+unnumber (suc (suc (suc zero))) p = Records
+unnumber (suc (suc (suc (suc zero)))) p = Sum p
+unnumber (suc (suc (suc (suc (suc zero))))) p = Fields p
+unnumber (suc (suc (suc (suc (suc (suc zero)))))) p = Rising p
+unnumber (suc (suc (suc (suc (suc (suc (suc zero))))))) p = Entries p
+unnumber (suc (suc (suc (suc (suc (suc (suc (suc zero)))))))) p = Earlier p
+unnumber (suc (suc (suc (suc (suc (suc (suc (suc (suc zero))))))))) p = Round p
+unnumber (suc (suc (suc (suc (suc (suc (suc (suc (suc (suc zero)))))))))) p = Lent
+unnumber (suc (suc (suc (suc (suc (suc (suc (suc (suc (suc (suc zero))))))))))) p = Unnamed
+unnumber (suc (suc (suc (suc (suc (suc (suc (suc (suc (suc (suc (suc k)))))))))))) p = Input
 
-unnumbered : (r : Refusal) → unnumber (numberOf r) (positionOf r) ≡ r
-unfolding unnumber
-unnumbered Authors = refl
-unnumbered Length = refl
-unnumbered Records = refl
-unnumbered (Sum p) = refl
-unnumbered (Fields p) = refl
-unnumbered (Rising p) = refl
-unnumbered (Entries p) = refl
-unnumbered (Earlier p) = refl
-unnumbered (Round p) = refl
-unnumbered Lent = refl
-unnumbered Unnamed = refl
-unnumbered Input = refl
+untold : {A : Type 0} → Told A → Refusal
+untold c = unnumber (numberOf c) (positionOf c)
 
-pub refusal-unique : (r s : Refusal) → numberOf r ≡ numberOf s → positionOf r ≡ positionOf s → r ≡ s
-refusal-unique r s e p = sym (unnumbered r) ∙ ap₂ unnumber e p ∙ unnumbered s
+untold-told : (A : Type 0) (r : Refusal) → untold {A = A} (refusalTells r) ≡ r
+unfolding untold unnumber
+untold-told A Authors = refl
+untold-told A Length = refl
+untold-told A Records = refl
+untold-told A (Sum p) = refl
+untold-told A (Fields p) = refl
+untold-told A (Rising p) = refl
+untold-told A (Entries p) = refl
+untold-told A (Earlier p) = refl
+untold-told A (Round p) = refl
+untold-told A Lent = refl
+untold-told A Unnamed = refl
+untold-told A Input = refl
+
+pub refusal-unique : {A : Type 0} (r s : Refusal) → _≡_ {A = Told A} (refusalTells r) (refusalTells s) → r ≡ s
+refusal-unique {A} r s e = sym (untold-told A r) ∙ ap untold e ∙ untold-told A s
+
+-- something that is given is no refusal
+gives-refusal : {A : Type 0} (a : A) (r : Refusal) → gives a ≡ refusalTells r → ⊥
+gives-refusal a Authors e = refused-gives refl (sym e)
+gives-refusal a Length e = refused-gives refl (sym e)
+gives-refusal a Records e = refused-gives refl (sym e)
+gives-refusal a (Sum p) e = refused-gives refl (sym e)
+gives-refusal a (Fields p) e = refused-gives refl (sym e)
+gives-refusal a (Rising p) e = refused-gives refl (sym e)
+gives-refusal a (Entries p) e = refused-gives refl (sym e)
+gives-refusal a (Earlier p) e = refused-gives refl (sym e)
+gives-refusal a (Round p) e = refused-gives refl (sym e)
+gives-refusal a Lent e = refused-gives refl (sym e)
+gives-refusal a Unnamed e = refused-gives refl (sym e)
+gives-refusal a Input e = refused-gives refl (sym e)
+
+pub check-unique : (c d : Checked) → checkTells c ≡ checkTells d → c ≡ d
+check-unique checked.Passed checked.Passed e = refl
+check-unique checked.Passed (checked.Refused s) e = absurd (gives-refusal tt s e)
+check-unique (checked.Refused r) checked.Passed e = absurd (gives-refusal tt r (sym e))
+check-unique (checked.Refused r) (checked.Refused s) e = ap checked.Refused (refusal-unique r s e)
+
+pub lookup-unique : (c d : LookupAnswer) → lookupTells c ≡ lookupTells d → c ≡ d
+lookup-unique answer.Found answer.Found e = refl
+lookup-unique answer.Found (answer.Refused s) e = absurd (gives-refusal tt s e)
+lookup-unique (answer.Refused r) answer.Found e = absurd (gives-refusal tt r (sym e))
+lookup-unique (answer.Refused r) (answer.Refused s) e = ap answer.Refused (refusal-unique r s e)
+
+pub outcome-unique : (c d : Outcome) → outcomeTells c ≡ outcomeTells d → c ≡ d
+outcome-unique (outcome.Settled a) (outcome.Settled b) e = cc
+outcome-unique (outcome.Settled a) (outcome.Refused s) e = absurd (gives-refusal a s e)
+outcome-unique (outcome.Refused r) (outcome.Settled b) e = absurd (gives-refusal b r (sym e))
+outcome-unique (outcome.Refused r) (outcome.Refused s) e = ap outcome.Refused (refusal-unique r s e)

@@ -8,12 +8,9 @@ use lib.ListN.{length}
 use Rattle.folds.specs.Folds.{_and_, _or_, countTo, anyTo}
 use Rattle.rules.specs.declared.Name.{Name}
 use Rattle.rules.specs.declared.Vertex.{Vertex}
-use Rattle.rules.specs.declared.Refusal.{Refusal}
-use Rattle.rules.specs.declared.Refusal.the-variants.{Authors, Length, Records, Sum, Fields, Rising, Entries, Earlier, Round}
-use Rattle.rules.specs.declared.Checked.{Checked}
 use Rattle.rules.specs.Authors.{isCount, quorum}
 use Rattle.rules.specs.Record.{Edition, recordAt, sumOf, records, vertices, at, nameOf, refers, entryName, below, find}
-use Rattle.rules.specs.Refusals.{_when_, _then_, eachTo}
+use Rattle.rules.specs.Refusals.{Told, refusal, _when_, _then_, eachTo}
 
 -- 4: the sum differs
 unfoldable pub sumDiffers : Edition → List ℕ → List Vertex → ℕ → Bool
@@ -43,19 +40,22 @@ unfoldable pub roundAbove : Vertex → Bool
 roundAbove v = ltb 1400 (v .round)
 
 -- Each record is put through 4 to 9 in order.
-unfoldable pub checkRecord : Edition → ℕ → List ℕ → List Vertex → ℕ → Checked
+unfoldable pub checkRecord : Edition → ℕ → List ℕ → List Vertex → ℕ → Told (Unit {0})
 checkRecord E n t vs p =
-    Sum p when sumDiffers E t vs p
-    then Fields p when fieldsWrong n (at vs p)
-    then Rising p when notAbove vs p
-    then Entries p when entriesWrong n (at vs p)
-    then Earlier p when notEarlier vs p
-    then Round p when roundAbove (at vs p)
+    refusal 4 p when sumDiffers E t vs p
+    then refusal 5 p when fieldsWrong n (at vs p)
+    then refusal 6 p when notAbove vs p
+    then refusal 7 p when entriesWrong n (at vs p)
+    then refusal 8 p when notEarlier vs p
+    then refusal 9 p when roundAbove (at vs p)
 
--- Checks 1 to 3 come first, in that order. Then records are taken by position from 0.
-unfoldable pub check : Edition → ℕ → List ℕ → Checked
-check E n t =
-    Authors when not (isCount n)
-    then Length when not (eqb (length t % E .size) 0)
-    then Records when ltb 4096 (records E t)
+-- Checks 2 and 3, then records are taken by position from 0.
+unfoldable pub checkTable : Edition → ℕ → List ℕ → Told (Unit {0})
+checkTable E n t =
+    refusal 2 0 when not (eqb (length t % E .size) 0)
+    then refusal 3 0 when ltb 4096 (records E t)
     then eachTo (checkRecord E n t (vertices E t)) (records E t)
+
+-- Check 1 comes first: n is not one of the ten counts.
+unfoldable pub check : Edition → ℕ → List ℕ → Told (Unit {0})
+check E n t = refusal 1 0 when not (isCount n) then checkTable E n t

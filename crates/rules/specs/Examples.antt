@@ -7,10 +7,8 @@ use Prim.Native.String.{String}
 use mathlib.Core.List.{List, [], _∷_, _++_, map}
 use mathlib.Core.Path.{_≡_}
 use lib.ListN.{length, replicate}
-use Rattle.rules.specs.declared.Refusal.{Refusal}
-use Rattle.rules.specs.declared.Refusal.the-variants.{Sum, Fields, Rising, Entries, Earlier}
 use Rattle.rules.specs.declared.Counts.{Counts}
-use Rattle.rules.specs.declared.Outcome.the-variants.{Settled, Refused}
+use Rattle.rules.specs.Refusals.{gives, refusal}
 use Rattle.rules.specs.Record.{first, sumOf}
 use Rattle.rules.specs.Decide.{boxSetting}
 use Rattle.rules.specs.Settlement.{Buffers, Settles, settle}
@@ -40,10 +38,10 @@ counts a b c d e = record { records = a; highest = b; undecided = c; written = d
 -- the printed text, the counts, and what is written of cells, places and taken bytes
 abbrev pub settledAs : String → Counts → (cells order taken : List ℕ) → Answer
 settledAs s c xs ys zs =
-    record { prints = bytesOf s; settles = record { outcome = Settled c; buffers = record { cells = kept xs; order = kept ys; taken = kept zs } } }
+    record { prints = bytesOf s; settles = record { outcome = gives c; buffers = record { cells = kept xs; order = kept ys; taken = kept zs } } }
 
-abbrev pub refusedAs : String → Refusal → Answer
-refusedAs s r = record { prints = bytesOf s; settles = record { outcome = Refused r; buffers = nines } }
+abbrev pub refusedAs : String → (number position : ℕ) → Answer
+refusedAs s k p = record { prints = bytesOf s; settles = record { outcome = refusal k p; buffers = nines } }
 
 -- ---- the answers of document 01
 
@@ -120,19 +118,19 @@ a9 =
     (0 ∷ 0 ∷ 0 ∷ 0 ∷ 0 ∷ 0 ∷ 0 ∷ 0 ∷ 0 ∷ [])
 
 abbrev pub a10 : Answer
-a10 = refusedAs "X 5 0\n" (Fields 0)
+a10 = refusedAs "X 5 0\n" 5 0
 
 abbrev pub a11 : Answer
-a11 = refusedAs "X 4 0\n" (Sum 0)
+a11 = refusedAs "X 4 0\n" 4 0
 
 abbrev pub a12 : Answer
-a12 = refusedAs "X 6 1\n" (Rising 1)
+a12 = refusedAs "X 6 1\n" 6 1
 
 abbrev pub a13 : Answer
-a13 = refusedAs "X 7 3\n" (Entries 3)
+a13 = refusedAs "X 7 3\n" 7 3
 
 abbrev pub a14 : Answer
-a14 = refusedAs "X 8 3\n" (Earlier 3)
+a14 = refusedAs "X 8 3\n" 8 3
 
 -- ---- the single statement
 

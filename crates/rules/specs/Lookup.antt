@@ -4,31 +4,18 @@ use Prim.Native.Nat.{ℕ, _*_}
 use mathlib.Core.List.{List}
 use lib.Dec.{leb}
 use Rattle.rules.specs.declared.Name.{Name}
-use Rattle.rules.specs.declared.Refusal.the-variants.{Unnamed}
-use Rattle.rules.specs.declared.Checked.{Checked}
-use Rattle.rules.specs.declared.Checked.the-variants.{Passed, Refused}
-use Rattle.rules.specs.declared.LookupAnswer.{LookupAnswer}
-use Rattle.rules.specs.declared.LookupAnswer.the-variants as answer
 use Rattle.rules.specs.Record.{Edition, records, vertices, find}
-use Rattle.rules.specs.Refusals.{_when_, _then_}
+use Rattle.rules.specs.Refusals.{Told, gives, refused, refusal, _when_, _then_}
 use Rattle.rules.specs.Check.{check}
 
--- 11: after the table passes, no such name
-unfoldable pub lookupCheck : Edition → ℕ → List ℕ → Name → Checked
-lookupCheck E n t x = check E n t then Unnamed when leb (records E t) (find (vertices E t) x)
-
--- The second question.
-abbrev pub answerOf : Checked → LookupAnswer
-answerOf Passed = answer.Found
-answerOf (Refused r) = answer.Refused r
-
-unfoldable pub lookupAnswer : Edition → ℕ → List ℕ → Name → LookupAnswer
-lookupAnswer E n t x = answerOf (lookupCheck E n t x)
+-- 11: after the table passes, no such name. This is what the second question tells.
+unfoldable pub lookupCheck : Edition → ℕ → List ℕ → Name → Told (Unit {0})
+lookupCheck E n t x = check E n t then refusal 11 0 when leb (records E t) (find (vertices E t) x)
 
 -- Where the part begins and how long it is: the record's own bytes, or the first zero bytes of the table.
-abbrev pub ifPassed : Checked → ℕ → ℕ
-ifPassed Passed k = k
-ifPassed (Refused r) k = 0
+abbrev pub ifPassed : Told (Unit {0}) → ℕ → ℕ
+ifPassed (gives a) k = k
+ifPassed (refused r vs) k = 0
 
 unfoldable pub lookupBegin : Edition → ℕ → List ℕ → Name → ℕ
 lookupBegin E n t x = ifPassed (lookupCheck E n t x) (E .size * find (vertices E t) x)

@@ -3,16 +3,12 @@
 use Prim.Native.Nat.{ℕ, zero, suc, _+_, _/_, _%_}
 use Prim.Native.Char.{code}
 use Prim.Native.String.{String}
-use mathlib.Core.List.{List, [], _∷_, _++_}
+use mathlib.Core.List.{List, [], _∷_, _++_, map}
 use lib.Dec.{ltb}
 use lib.ListN.{length, getD, drop}
 use Rattle.rules.specs.declared.Vertex.{Vertex}
-use Rattle.rules.specs.declared.Refusal.{Refusal}
-use Rattle.rules.specs.declared.Refusal.the-variants.{Input}
-use Rattle.rules.specs.declared.Checked.{Checked}
-use Rattle.rules.specs.declared.Checked.the-variants.{Passed, Refused}
 use Rattle.rules.specs.declared.Counts.{Counts}
-use Rattle.rules.specs.Refusals.{numberOf, positionOf, _when_, _then_}
+use Rattle.rules.specs.Refusals.{Told, gives, refused, refusal, _when_, _then_}
 use Rattle.rules.specs.Record.{first, vertices, at}
 use Rattle.rules.specs.Check.{check}
 use Rattle.rules.specs.Decision.{Decision, undecided, skipped, committed}
@@ -47,9 +43,9 @@ line w (x ∷ xs) = w ++ 32 ∷ line x xs
 
 -- ---- the four kinds of line
 
--- `X number position`
-unfoldable pub lineX : Refusal → List ℕ
-lineX r = line (bytesOf "X") (decimal (numberOf r) ∷ decimal (positionOf r) ∷ [])
+-- `X number position`: the number, then the values.
+unfoldable pub lineX : (number : ℕ) (values : List ℕ) → List ℕ
+lineX k values = line (bytesOf "X") (decimal k ∷ map decimal values)
 
 -- `S records highest-round first-undecided written equivocators`
 unfoldable pub lineS : Counts → List ℕ
@@ -80,9 +76,9 @@ linesV vs [] = []
 linesV vs (p ∷ ps) = lineV (at vs p) ++ linesV vs ps
 
 -- `X` on refusal. Else `S`, then the rounds, then the written vertices.
-unfoldable pub lines : Checked → Setting → ℕ → List Vertex → List ℕ
-lines (Refused r) C n vs = lineX r
-lines Passed C n vs =
+unfoldable pub lines : Told (Unit {0}) → Setting → ℕ → List Vertex → List ℕ
+lines (refused k values) C n vs = lineX k values
+lines (gives a) C n vs =
     let ds = decisions C n vs in
     let written = writeFrom (C .step) vs [] ds in
     lineS (countsOf n vs ds written) ++ linesR vs 1 ds ++ linesV vs written
@@ -96,4 +92,4 @@ unfoldable pub printed : List ℕ → List ℕ
 printed input =
     let n = getD input 0 0 in
     let t = drop 1 input in
-    lines (Input when ltb holds (length input) then check first n t) (boxSetting n) n (vertices first t)
+    lines (refusal 12 0 when ltb holds (length input) then check first n t) (boxSetting n) n (vertices first t)

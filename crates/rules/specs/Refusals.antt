@@ -1,54 +1,87 @@
--- Document 01, "Refusal numbers and their order": the number and the position of each case, and how a refusal comes before what is checked after it.
+-- Document 01, "Refusal numbers and their order": what a call tells, the number and the values of each refusal, and how the first failing check answers.
 -- Assumes nothing.
 use Prim.Native.Nat.{ℕ, zero, suc}
 use mathlib.Core.Bool.{Bool, true, false}
+use mathlib.Core.List.{List, [], _∷_}
+use lib.ListN.{getD}
 use Rattle.rules.specs.declared.Refusal.{Refusal}
 use Rattle.rules.specs.declared.Refusal.the-variants.{Authors, Length, Records, Sum, Fields, Rising, Entries, Earlier, Round, Lent, Unnamed, Input}
 use Rattle.rules.specs.declared.Checked.{Checked}
-use Rattle.rules.specs.declared.Checked.the-variants.{Passed, Refused}
+use Rattle.rules.specs.declared.Checked.the-variants as checked
+use Rattle.rules.specs.declared.LookupAnswer.{LookupAnswer}
+use Rattle.rules.specs.declared.LookupAnswer.the-variants as answer
+use Rattle.rules.specs.declared.Counts.{Counts}
+use Rattle.rules.specs.declared.Outcome.{Outcome}
+use Rattle.rules.specs.declared.Outcome.the-variants as outcome
 
-abbrev pub numberOf : Refusal → ℕ
-numberOf Authors = 1
-numberOf Length = 2
-numberOf Records = 3
-numberOf (Sum p) = 4
-numberOf (Fields p) = 5
-numberOf (Rising p) = 6
-numberOf (Entries p) = 7
-numberOf (Earlier p) = 8
-numberOf (Round p) = 9
-numberOf Lent = 10
-numberOf Unnamed = 11
-numberOf Input = 12
+-- ---- what is told, in this paper's numbers
 
--- The record's position; 0 for 1, 2, 3, 10, 11, 12.
-abbrev pub positionOf : Refusal → ℕ
-positionOf Authors = 0
-positionOf Length = 0
-positionOf Records = 0
-positionOf (Sum p) = p
-positionOf (Fields p) = p
-positionOf (Rising p) = p
-positionOf (Entries p) = p
-positionOf (Earlier p) = p
-positionOf (Round p) = p
-positionOf Lent = 0
-positionOf Unnamed = 0
-positionOf Input = 0
+-- What a call tells: what it gives, or that it is refused, with a number and values.
+pub data Told (A : Type 0) : Type 0 where
+  gives : A → Told A
+  refused : (number : ℕ) (values : List ℕ) → Told A
+
+-- A check gives nothing but that it is passed.
+abbrev pub passed : Told (Unit {0})
+passed = gives tt
+
+-- Refused with a number and the record's position, 0 where the check is put to no record.
+abbrev pub refusal : {A : Type 0} → (number position : ℕ) → Told A
+refusal k p = refused k (p ∷ [])
+
+-- The number and the position that are told; 0 and 0 where nothing is refused.
+abbrev pub numberOf : {A : Type 0} → Told A → ℕ
+numberOf (gives a) = 0
+numberOf (refused k vs) = k
+
+abbrev pub positionOf : {A : Type 0} → Told A → ℕ
+positionOf (gives a) = 0
+positionOf (refused k vs) = getD vs 0 0
+
+-- ---- what each case of an answer tells
+
+abbrev pub refusalTells : {A : Type 0} → Refusal → Told A
+refusalTells Authors = refusal 1 0
+refusalTells Length = refusal 2 0
+refusalTells Records = refusal 3 0
+refusalTells (Sum p) = refusal 4 p
+refusalTells (Fields p) = refusal 5 p
+refusalTells (Rising p) = refusal 6 p
+refusalTells (Entries p) = refusal 7 p
+refusalTells (Earlier p) = refusal 8 p
+refusalTells (Round p) = refusal 9 p
+refusalTells Lent = refusal 10 0
+refusalTells Unnamed = refusal 11 0
+refusalTells Input = refusal 12 0
+
+abbrev pub checkTells : Checked → Told (Unit {0})
+checkTells checked.Passed = passed
+checkTells (checked.Refused r) = refusalTells r
+
+abbrev pub lookupTells : LookupAnswer → Told (Unit {0})
+lookupTells answer.Found = passed
+lookupTells (answer.Refused r) = refusalTells r
+
+-- Settled, with the five values; or refused.
+abbrev pub outcomeTells : Outcome → Told Counts
+outcomeTells (outcome.Settled c) = gives c
+outcomeTells (outcome.Refused r) = refusalTells r
+
+-- ---- the order of checks
 
 infixr 20 _then_
 infix 25 _when_
 -- One check: the refusal is given when its test holds.
-unfoldable pub _when_ : Refusal → Bool → Checked
-r when true = Refused r
-r when false = Passed
+unfoldable pub _when_ : Told (Unit {0}) → Bool → Told (Unit {0})
+c when true = c
+c when false = passed
 
 -- The first failing check answers.
-unfoldable pub _then_ : Checked → Checked → Checked
-Passed then c = c
-Refused r then c = Refused r
+unfoldable pub _then_ : {A : Type 0} → Told (Unit {0}) → Told A → Told A
+gives a then c = c
+refused k vs then c = refused k vs
 
 -- Records are taken by position from 0: the check of each of the first k, in turn.
-unfoldable pub eachTo : (ℕ → Checked) → ℕ → Checked
-eachTo c zero = Passed
+unfoldable pub eachTo : (ℕ → Told (Unit {0})) → ℕ → Told (Unit {0})
+eachTo c zero = passed
 eachTo c (suc k) = eachTo c k then c k

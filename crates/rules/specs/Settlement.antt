@@ -7,14 +7,9 @@ use lib.Dec.{ltb, eqb}
 use lib.ListN.{length, drop}
 use Rattle.folds.specs.Folds.{_and_, _or_, bit, countTo, anyTo, tabulate, member}
 use Rattle.rules.specs.declared.Vertex.{Vertex}
-use Rattle.rules.specs.declared.Refusal.the-variants.{Lent}
-use Rattle.rules.specs.declared.Checked.{Checked}
-use Rattle.rules.specs.declared.Checked.the-variants.{Passed, Refused}
 use Rattle.rules.specs.declared.Counts.{Counts}
-use Rattle.rules.specs.declared.Outcome.{Outcome}
-use Rattle.rules.specs.declared.Outcome.the-variants as outcome
 use Rattle.rules.specs.Record.{Edition, records, vertices, at}
-use Rattle.rules.specs.Refusals.{_when_, _then_}
+use Rattle.rules.specs.Refusals.{Told, gives, refused, refusal, _when_, _then_}
 use Rattle.rules.specs.Check.{check}
 use Rattle.rules.specs.Decision.{Decision, cell}
 use Rattle.rules.specs.Decide.{Setting, highest, decisions}
@@ -44,9 +39,9 @@ pub record Buffers : Type 0 where
 abbrev pub lent : (cells order taken : List ℕ) → Buffers
 lent cells order taken = record { cells = cells; order = order; taken = taken }
 
--- The outcome, and what the lent buffers hold then.
+-- What is told, and what the lent buffers hold then.
 pub record Settles : Type 0 where
-  pub outcome : Outcome
+  pub outcome : Told Counts
   pub buffers : Buffers
 
 -- The first places of a buffer written, the rest as it was.
@@ -74,7 +69,7 @@ settled C n vs b =
     let ds = decisions C n vs in
     let written = writeFrom (C .step) vs [] ds in
     record {
-      outcome = outcome.Settled (countsOf n vs ds written);
+      outcome = gives (countsOf n vs ds written);
       buffers = record {
         cells = writtenOver (map cell ds) (b .cells);
         order = writtenOver written (b .order);
@@ -83,9 +78,13 @@ settled C n vs b =
     }
 
 -- A refusal leaves all lent memory untouched.
-unfoldable pub settleIf : Checked → Setting → ℕ → List Vertex → Buffers → Settles
-settleIf Passed C n vs b = settled C n vs b
-settleIf (Refused r) C n vs b = record { outcome = outcome.Refused r; buffers = b }
+unfoldable pub settleIf : Told (Unit {0}) → Setting → ℕ → List Vertex → Buffers → Settles
+settleIf (gives a) C n vs b = settled C n vs b
+settleIf (refused k values) C n vs b = record { outcome = refused k values; buffers = b }
+
+-- The table's refusal, or else 10.
+unfoldable pub lentCheck : Setting → Edition → ℕ → List ℕ → Buffers → Told (Unit {0})
+lentCheck C E n t b = check E n t then refusal 10 0 when tooShort C (vertices E t) b
 
 unfoldable pub settle : Setting → Edition → ℕ → List ℕ → Buffers → Settles
-settle C E n t b = settleIf (check E n t then Lent when tooShort C (vertices E t) b) C n (vertices E t) b
+settle C E n t b = settleIf (lentCheck C E n t b) C n (vertices E t) b

@@ -8,18 +8,13 @@ use native.Mathlib.Nat.{not-suc-le-zero, le-of-suc-le-suc}
 use lib.ListN.{length, getD, take, List·getD-append}
 use lib.Seq.{take-at}
 use Rattle.rules.specs.declared.Vertex.{Vertex}
-use Rattle.rules.specs.declared.Refusal.the-variants.{Lent}
-use Rattle.rules.specs.declared.Checked.{Checked}
-use Rattle.rules.specs.declared.Checked.the-variants.{Passed, Refused}
 use Rattle.rules.specs.declared.Counts.{Counts}
-use Rattle.rules.specs.declared.Outcome.the-variants as outcome
 use Rattle.rules.specs.Record.{first, vertices, at}
 use Rattle.rules.specs.Decision.{Decision, undecided, skipped, committed, cell}
 use Rattle.rules.specs.Decide.{boxSetting, highest, decisions, decisionAt}
 use Rattle.rules.specs.Order.{order}
-use Rattle.rules.specs.Refusals.{_when_, _then_}
-use Rattle.rules.specs.Check.{check}
-use Rattle.rules.specs.Settlement.{Buffers, tooShort, countsOf, settled, settleIf, settle, writtenOver}
+use Rattle.rules.specs.Refusals.{Told, gives, refused}
+use Rattle.rules.specs.Settlement.{Buffers, lentCheck, countsOf, settled, settleIf, settle, writtenOver}
 use Rattle.rules.proofs.Decide.{decisions-length}
 use Rattle.agreement.specs.Agreement.{Agree}
 use Rattle.agreement.specs.Buffers.{said, AgreeIn, SettledTo, Demand3InBuffers}
@@ -50,7 +45,7 @@ over-at f ds old s l = List·getD-append (map f ds) _ 0 s (rw (map-length f ds) 
 
 leaves : (n : ℕ) (t : List ℕ) (before : Buffers) (c : Counts) (after : Buffers) → SettledTo n t before c after → Leaves n t c after
 unfolding settle settleIf settled countsOf order
-leaves n t before c after S = go (check first n t then Lent when tooShort (boxSetting n) vs before) (S .outcome) (S .buffers)
+leaves n t before c after S = by-answer (lentCheck (boxSetting n) first n t before) (S .outcome) (S .buffers)
   where
     vs : List Vertex
     vs = vertices first t
@@ -58,9 +53,9 @@ leaves n t before c after S = go (check first n t then Lent when tooShort (boxSe
     ds : List (Decision ℕ)
     ds = decisions (boxSetting n) n vs
 
-    go : (k : Checked) → settleIf k (boxSetting n) n vs before .outcome ≡ outcome.Settled c → settleIf k (boxSetting n) n vs before .buffers ≡ after → Leaves n t c after
-    go (Refused r) e f = absurd (let z : _≡_ {A = ℕ} 0 1 = cc in omega arith)
-    go Passed e f =
+    by-answer : (k : Told (Unit {0})) → settleIf k (boxSetting n) n vs before .outcome ≡ gives c → settleIf k (boxSetting n) n vs before .buffers ≡ after → Leaves n t c after
+    by-answer (refused r values) e f = absurd (let z : _≡_ {A = ℕ} 0 1 = cc in omega arith)
+    by-answer (gives a) e f =
         let is : countsOf n vs ds (order (boxSetting n) n vs) ≡ c = cc in
         let top : c .highest ≡ length ds = ap (λ (x : Counts). x .highest) (sym is) ∙ sym (decisions-length (boxSetting n) n vs) in
         let count : c .written ≡ length (order (boxSetting n) n vs) = ap (λ (x : Counts). x .written) (sym is) in
@@ -71,10 +66,10 @@ leaves n t before c after S = go (check first n t then Lent when tooShort (boxSe
 
 pub demand-3-in-buffers : Demand3InBuffers
 demand-3-in-buffers n t u before before′ c d after after′ P S S′ =
-    go (demand-3 n t u P) (leaves n t before c after S) (leaves n u before′ d after′ S′)
+    in-buffers (demand-3 n t u P) (leaves n t before c after S) (leaves n u before′ d after′ S′)
   where
-    go : Agree (boxSetting n) (boxSetting n) n (vertices first t) (vertices first u) → Leaves n t c after → Leaves n u d after′ → AgreeIn t u c d after after′
-    go A L L′ = record {
+    in-buffers : Agree (boxSetting n) (boxSetting n) n (vertices first t) (vertices first u) → Leaves n t c after → Leaves n u d after′ → AgreeIn t u c d after after′
+    in-buffers A L L′ = record {
       alike = λ s l l′ h h′. rw (L .cells s l, L′ .cells s l′) (A .alike s (rw (L .cells s l) at h) (rw (L′ .cells s l′) at h′));
       orders = rw (L .places, L′ .places) (A .orders);
     }

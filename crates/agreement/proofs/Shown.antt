@@ -13,7 +13,7 @@ use Rattle.folds.specs.Folds.{_and_, countTo, anyTo}
 use Rattle.folds.proofs.Tests.{not-both, passed, and-left, and-right, and-true, is-not}
 use Rattle.folds.proofs.Laws.{any-none}
 use Rattle.rules.specs.declared.Name.{Name}
-use Rattle.rules.specs.declared.Checked.the-variants.{Passed}
+use Rattle.rules.specs.Refusals.{passed as passes}
 use Rattle.rules.specs.Authors.{faults}
 use Rattle.rules.specs.Record.{Edition, first, recordAt, records, vertices, at, nameOf, sameName}
 use Rattle.rules.specs.Check.{check}
@@ -61,11 +61,11 @@ agree23 : clashes first p2 p3 ≡ false
 unfolding rules-open p2 p3 clashes clash sameBytes
 agree23 = refl
 
-passes2 : check first 4 p2 ≡ Passed
+passes2 : check first 4 p2 ≡ passes
 unfolding rules-open p2
 passes2 = refl
 
-passes3 : check first 4 p3 ≡ Passed
+passes3 : check first 4 p3 ≡ passes
 unfolding rules-open p3
 passes3 = refl
 
@@ -102,7 +102,7 @@ contradict : (t u : List ℕ) (b : Name) → told (boxSetting 4) 4 (vertices fir
 unfolding tell
 contradict t u b e k A = skipped-apart e (A .alike 0 (λ z. committed-decided e (ap (tell _) z)) (λ z. skipped-decided k (ap (tell _) z)) ∙ k)
 
-passes-commits : check first 4 commits1 ≡ Passed
+passes-commits : check first 4 commits1 ≡ passes
 unfolding rules-open commits1 v unsummed summed
 passes-commits = refl
 
@@ -110,7 +110,7 @@ commits : told (boxSetting 4) 4 (vertices first commits1) 0 ≡ committed leader
 unfolding rules-open commits1 v unsummed summed
 commits = refl
 
-passes-record : check first 4 otherRecord ≡ Passed
+passes-record : check first 4 otherRecord ≡ passes
 unfolding rules-open otherRecord second v unsummed summed
 passes-record = refl
 
@@ -135,7 +135,7 @@ without-one-record = record {
   contradict = contradict commits1 otherRecord leader1 commits skips-record;
 }
 
-passes-twice : check first 4 twoTwice ≡ Passed
+passes-twice : check first 4 twoTwice ≡ passes
 unfolding rules-open twoTwice second v unsummed summed
 passes-twice = refl
 

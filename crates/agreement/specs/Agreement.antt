@@ -6,7 +6,7 @@ use mathlib.Core.Logic.{_⊎_}
 use mathlib.Core.List.{List, _++_}
 use Rattle.rules.specs.declared.Name.{Name}
 use Rattle.rules.specs.declared.Vertex.{Vertex}
-use Rattle.rules.specs.declared.Checked.the-variants.{Passed}
+use Rattle.rules.specs.Refusals.{passed}
 use Rattle.rules.specs.Authors.{faults}
 use Rattle.rules.specs.Record.{Edition, first, recordAt, records, vertices, at, nameOf}
 use Rattle.rules.specs.Check.{check}
@@ -18,8 +18,8 @@ use Rattle.rules.specs.Settlement.{equivocators}
 -- Two tables that pass the check for the same author count; a vertex name found in both stands for the same record; at most f authors
 -- have two vertices in some one round of the two tables taken together.
 pub record Premises (E : Edition) (n : ℕ) (t u : List ℕ) : Type 0 where
-  pub one-passes : check E n t ≡ Passed
-  pub other-passes : check E n u ≡ Passed
+  pub one-passes : check E n t ≡ passed
+  pub other-passes : check E n u ≡ passed
   pub same-record : (p q : ℕ) → p < records E t → q < records E u → nameOf (at (vertices E t) p) ≡ nameOf (at (vertices E u) q) → recordAt E t p ≡ recordAt E u q
   pub few : equivocators n (vertices E t ++ vertices E u) ≤ faults n
 

@@ -7,7 +7,7 @@ use mathlib.Core.List.{List, map}
 use lib.ListN.{getD, take}
 use Rattle.rules.specs.declared.Name.{Name}
 use Rattle.rules.specs.declared.Counts.{Counts}
-use Rattle.rules.specs.declared.Outcome.the-variants.{Settled}
+use Rattle.rules.specs.Refusals.{gives}
 use Rattle.rules.specs.Record.{first, vertices, at, nameOf}
 use Rattle.rules.specs.Decision.{Decision, undecided, skipped, committed, Decided, tell}
 use Rattle.rules.specs.Decide.{boxSetting}
@@ -36,7 +36,7 @@ pub record AgreeIn (t u : List ℕ) (c d : Counts) (b b′ : Buffers) : Type 0 w
 
 -- A settlement with the lent buffers `before` that is settled, with these counts and these buffers after it.
 pub record SettledTo (n : ℕ) (t : List ℕ) (before : Buffers) (c : Counts) (after : Buffers) : Type 0 where
-  pub outcome : settle (boxSetting n) first n t before .outcome ≡ Settled c
+  pub outcome : settle (boxSetting n) first n t before .outcome ≡ gives c
   pub buffers : settle (boxSetting n) first n t before .buffers ≡ after
 
 abbrev pub Demand3InBuffers : Type 0

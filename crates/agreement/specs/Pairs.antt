@@ -3,7 +3,7 @@
 use Prim.Native.Nat.{ℕ, suc, _≤_, _<_}
 use mathlib.Core.Path.{_≡_}
 use mathlib.Core.List.{List, [], _∷_, _++_}
-use Rattle.rules.specs.declared.Checked.the-variants.{Passed}
+use Rattle.rules.specs.Refusals.{passed}
 use Rattle.rules.specs.Authors.{faults}
 use Rattle.rules.specs.Record.{first, recordAt, records, vertices, at, nameOf}
 use Rattle.rules.specs.Check.{check}
@@ -41,15 +41,15 @@ Contradict t u = Agree (boxSetting 4) (boxSetting 4) 4 (vertices first t) (verti
 
 -- All premises but that a name found in both stands for the same record.
 pub record WithoutOneRecord : Type 0 where
-  pub one-passes : check first 4 commits1 ≡ Passed
-  pub other-passes : check first 4 otherRecord ≡ Passed
+  pub one-passes : check first 4 commits1 ≡ passed
+  pub other-passes : check first 4 otherRecord ≡ passed
   pub few : equivocators 4 (vertices first commits1 ++ vertices first otherRecord) ≤ faults 4
   pub contradict : Contradict commits1 otherRecord
 
 -- All premises but that at most f authors have two vertices in some one round: here f + 1 have.
 pub record WithoutFew : Type 0 where
-  pub one-passes : check first 4 commits1 ≡ Passed
-  pub other-passes : check first 4 twoTwice ≡ Passed
+  pub one-passes : check first 4 commits1 ≡ passed
+  pub other-passes : check first 4 twoTwice ≡ passed
   pub same-record : (p q : ℕ) → p < records first commits1 → q < records first twoTwice → nameOf (at (vertices first commits1) p) ≡ nameOf (at (vertices first twoTwice) q)
       → recordAt first commits1 p ≡ recordAt first twoTwice q
   pub one-too-many : equivocators 4 (vertices first commits1 ++ vertices first twoTwice) ≡ suc (faults 4)

@@ -18,7 +18,7 @@ use Rattle.folds.proofs.Laws.{first-unique, any-none, count-cut}
 use Rattle.folds.proofs.Quorum.{some-of}
 use Rattle.rules.specs.declared.Name.{Name}
 use Rattle.rules.specs.declared.Vertex.{Vertex}
-use Rattle.rules.specs.Refusals.{passed as all-passed}
+use Rattle.rules.specs.Refusals.{passed as passes}
 use Rattle.rules.specs.Authors.{isCount, faults, quorum}
 use Rattle.rules.specs.Record.{Edition, recordAt, decode, records, vertices, noVertex, at, entry, refers, entryName, nameOf, below, find, vertexOf}
 use Rattle.rules.specs.Check.{fieldsWrong, notAbove, entriesWrong, notEarlier, checkRecord, checkTable, check}
@@ -40,7 +40,7 @@ pub record Accepted (n : ℕ) (vs : List Vertex) : Type 0 where
   pub few : n ≤ 31
   pub each : (p : ℕ) → p < length vs → Fine n vs p
 
-pub record-passed : (E : Edition) (n : ℕ) (t : List ℕ) (p : ℕ) → p < records E t → checkRecord E n t (vertices E t) p ≡ all-passed → Fine n (vertices E t) p
+pub record-passed : (E : Edition) (n : ℕ) (t : List ℕ) (p : ℕ) → p < records E t → checkRecord E n t (vertices E t) p ≡ passes → Fine n (vertices E t) p
 unfolding checkRecord
 record-passed E n t p l e =
     let e4 = then-both _ _ e in
@@ -56,7 +56,7 @@ record-passed E n t p l e =
       width = ap (λ v. length (v .refs)) (vertices-at E t p l) ∙ decode-entries E (recordAt E t p);
     }
 
-pub accepted : (E : Edition) (n : ℕ) (t : List ℕ) → check E n t ≡ all-passed → Accepted n (vertices E t)
+pub accepted : (E : Edition) (n : ℕ) (t : List ℕ) → check E n t ≡ passes → Accepted n (vertices E t)
 unfolding check checkTable isCount
 accepted E n t e =
     let e1 = then-both _ _ e in

@@ -1,43 +1,40 @@
 // Document 01's number and position of a refusal, for all that tell it: the lines and the exports.
 ghost use mathlib.Core.Path.{_≡_};
-ghost use Rattle.rules.specs.Refusals.{numberOf, positionOf};
+ghost use Rattle.rules.specs.declared.Checked.the-variants as Checked;
+ghost use Rattle.rules.specs.Refusals.{checkTells};
+ghost use Rattle.refusals.specs.Numbers.{numberedAs, numberAt};
 use rules::Refusal;
 
-pub fn number_of(why: Refusal) -> u32
-    ensures { λ r. ⌜ r ≡ numberOf why ⌝ }
+pub struct Numbered {
+    pub number: u32,
+    pub position: usize,
+}
+
+fn at(number: u32, position: usize) -> Numbered
+    ensures { λ r. ⌜ r ≡ numberAt number position ⌝ }
 {
-    match why {
-        Refusal::Authors => 1,
-        Refusal::Length => 2,
-        Refusal::Records => 3,
-        Refusal::Sum { position: _ } => 4,
-        Refusal::Fields { position: _ } => 5,
-        Refusal::Rising { position: _ } => 6,
-        Refusal::Entries { position: _ } => 7,
-        Refusal::Earlier { position: _ } => 8,
-        Refusal::Round { position: _ } => 9,
-        Refusal::Lent => 10,
-        Refusal::Unnamed => 11,
-        Refusal::Input => 12,
+    Numbered {
+        number,
+        position,
     }
 }
 
 // The record's position; 0 for a refusal that is of no record.
-pub fn position_of(why: Refusal) -> usize
-    ensures { λ r. ⌜ r ≡ positionOf why ⌝ }
+pub fn number_of(why: Refusal) -> Numbered
+    ensures { λ r. ⌜ r ≡ numberedAs (checkTells (Checked.Refused why)) ⌝ }
 {
     match why {
-        Refusal::Authors => 0,
-        Refusal::Length => 0,
-        Refusal::Records => 0,
-        Refusal::Sum { position } => position,
-        Refusal::Fields { position } => position,
-        Refusal::Rising { position } => position,
-        Refusal::Entries { position } => position,
-        Refusal::Earlier { position } => position,
-        Refusal::Round { position } => position,
-        Refusal::Lent => 0,
-        Refusal::Unnamed => 0,
-        Refusal::Input => 0,
+        Refusal::Authors => at(1, 0),
+        Refusal::Length => at(2, 0),
+        Refusal::Records => at(3, 0),
+        Refusal::Sum { position } => at(4, position),
+        Refusal::Fields { position } => at(5, position),
+        Refusal::Rising { position } => at(6, position),
+        Refusal::Entries { position } => at(7, position),
+        Refusal::Earlier { position } => at(8, position),
+        Refusal::Round { position } => at(9, position),
+        Refusal::Lent => at(10, 0),
+        Refusal::Unnamed => at(11, 0),
+        Refusal::Input => at(12, 0),
     }
 }

@@ -1,12 +1,13 @@
 // One record, read from lent bytes. A read past the end is 0, so no function asks its caller for anything.
 ghost use mathlib.Core.Path.{_≡_};
-ghost use Prim.Native.Nat.{_+_, _-_, _*_, min};
+ghost use Prim.Native.Nat.{_+_, _-_, _*_};
 ghost use lib.ListN.{getD, drop};
 ghost use Rattle.record.specs.Copy.{copyOf};
 ghost use Rattle.record.specs.Part.{RecordPart};
 ghost use Rattle.rules.specs.Record.{number, first, records, decode as decoded, sumOf, nameOf, entry};
 use rules::Name;
 use rules::Vertex;
+use tally::smaller;
 
 // The length of a record.
 pub const RECORD: usize = 138;
@@ -44,13 +45,6 @@ fn minus(n: usize, k: usize) -> usize
     ensures { λ r. ⌜ r ≡ n - k ⌝ }
 {
     if n < k { 0 } else { n - k }
-}
-
-// The smaller of two numbers.
-fn smaller(n: usize, k: usize) -> usize
-    ensures { λ r. ⌜ r ≡ min n k ⌝ }
-{
-    if n < k { n } else { k }
 }
 
 // The bytes from byte i on, and none from the end on: counted from there, no place overflows.

@@ -17,7 +17,7 @@ use Rattle.rules.specs.declared.LookupAnswer.{LookupAnswer}
 use Rattle.rules.specs.declared.LookupAnswer.the-variants as answer
 use Rattle.rules.specs.declared.Outcome.{Outcome}
 use Rattle.rules.specs.declared.Outcome.the-variants as outcome
-use Rattle.rules.specs.Refusals.{Told, gives, refused, passed, refusal, numberOf, positionOf, refusalTells, checkTells, lookupTells, outcomeTells, _when_, _then_, eachTo}
+use Rattle.rules.specs.Refusals.{Told, gives, refused, passed, refusal, numberOf, positionOf, rowOf, refusalTells, checkTells, lookupTells, outcomeTells, _when_, _then_, eachTo}
 
 pub refused-gives : {A : Type 0} {k : ℕ} {vs : List ℕ} {a : A} {c : Told A} → c ≡ refused k vs → c ≡ gives a → ⊥
 refused-gives p q = let z : _≡_ {A = ℕ} 0 1 = cc in omega arith
@@ -125,41 +125,27 @@ unnumber (suc (suc (suc (suc (suc (suc (suc (suc (suc (suc zero)))))))))) p = Le
 unnumber (suc (suc (suc (suc (suc (suc (suc (suc (suc (suc (suc zero))))))))))) p = Unnamed
 unnumber (suc (suc (suc (suc (suc (suc (suc (suc (suc (suc (suc (suc k)))))))))))) p = Input
 
-untold : {A : Type 0} → Told A → Refusal
-untold c = unnumber (numberOf c) (positionOf c)
-
-untold-told : (A : Type 0) (r : Refusal) → untold {A = A} (refusalTells r) ≡ r
-unfolding untold unnumber
-untold-told A Authors = refl
-untold-told A Length = refl
-untold-told A Records = refl
-untold-told A (Sum p) = refl
-untold-told A (Fields p) = refl
-untold-told A (Rising p) = refl
-untold-told A (Entries p) = refl
-untold-told A (Earlier p) = refl
-untold-told A (Round p) = refl
-untold-told A Lent = refl
-untold-told A Unnamed = refl
-untold-told A Input = refl
+rowed : (r : Refusal) → unnumber (rowOf r .number) (getD (rowOf r .values) 0 0) ≡ r
+unfolding unnumber
+rowed Authors = refl
+rowed Length = refl
+rowed Records = refl
+rowed (Sum p) = refl
+rowed (Fields p) = refl
+rowed (Rising p) = refl
+rowed (Entries p) = refl
+rowed (Earlier p) = refl
+rowed (Round p) = refl
+rowed Lent = refl
+rowed Unnamed = refl
+rowed Input = refl
 
 pub refusal-unique : {A : Type 0} (r s : Refusal) → _≡_ {A = Told A} (refusalTells r) (refusalTells s) → r ≡ s
-refusal-unique {A} r s e = sym (untold-told A r) ∙ ap untold e ∙ untold-told A s
+refusal-unique r s e = sym (rowed r) ∙ ap (λ c. unnumber (numberOf c) (positionOf c)) e ∙ rowed s
 
 -- something that is given is no refusal
 gives-refusal : {A : Type 0} (a : A) (r : Refusal) → gives a ≡ refusalTells r → ⊥
-gives-refusal a Authors e = refused-gives refl (sym e)
-gives-refusal a Length e = refused-gives refl (sym e)
-gives-refusal a Records e = refused-gives refl (sym e)
-gives-refusal a (Sum p) e = refused-gives refl (sym e)
-gives-refusal a (Fields p) e = refused-gives refl (sym e)
-gives-refusal a (Rising p) e = refused-gives refl (sym e)
-gives-refusal a (Entries p) e = refused-gives refl (sym e)
-gives-refusal a (Earlier p) e = refused-gives refl (sym e)
-gives-refusal a (Round p) e = refused-gives refl (sym e)
-gives-refusal a Lent e = refused-gives refl (sym e)
-gives-refusal a Unnamed e = refused-gives refl (sym e)
-gives-refusal a Input e = refused-gives refl (sym e)
+gives-refusal a r e = refused-gives refl (sym e)
 
 pub check-unique : (c d : Checked) → checkTells c ≡ checkTells d → c ≡ d
 check-unique checked.Passed checked.Passed e = refl

@@ -40,19 +40,30 @@ positionOf (refused k vs) = getD vs 0 0
 
 -- ---- what each case of an answer tells
 
+-- The number and the values of each refusal.
+pub record Row : Type 0 where
+  pub number : ℕ
+  pub values : List ℕ
+
+abbrev pub row : (number position : ℕ) → Row
+row k p = record { number = k; values = p ∷ [] }
+
+abbrev pub rowOf : Refusal → Row
+rowOf Authors = row 1 0
+rowOf Length = row 2 0
+rowOf Records = row 3 0
+rowOf (Sum p) = row 4 p
+rowOf (Fields p) = row 5 p
+rowOf (Rising p) = row 6 p
+rowOf (Entries p) = row 7 p
+rowOf (Earlier p) = row 8 p
+rowOf (Round p) = row 9 p
+rowOf Lent = row 10 0
+rowOf Unnamed = row 11 0
+rowOf Input = row 12 0
+
 abbrev pub refusalTells : {A : Type 0} → Refusal → Told A
-refusalTells Authors = refusal 1 0
-refusalTells Length = refusal 2 0
-refusalTells Records = refusal 3 0
-refusalTells (Sum p) = refusal 4 p
-refusalTells (Fields p) = refusal 5 p
-refusalTells (Rising p) = refusal 6 p
-refusalTells (Entries p) = refusal 7 p
-refusalTells (Earlier p) = refusal 8 p
-refusalTells (Round p) = refusal 9 p
-refusalTells Lent = refusal 10 0
-refusalTells Unnamed = refusal 11 0
-refusalTells Input = refusal 12 0
+refusalTells r = refused (rowOf r .number) (rowOf r .values)
 
 abbrev pub checkTells : Checked → Told (Unit {0})
 checkTells checked.Passed = passed

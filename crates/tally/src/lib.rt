@@ -52,3 +52,10 @@ pub fn once(c: usize) -> usize
     }
     c
 }
+
+// The smaller of two numbers.
+pub fn smaller(n: usize, k: usize) -> usize
+    ensures { λ r. ⌜ r ≡ min n k ⌝ }
+{
+    if n < k { n } else { k }
+}

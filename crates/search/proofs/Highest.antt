@@ -1,24 +1,23 @@
 -- The highest round is that of the last record.
 -- Assumes nothing.
-use Prim.Native.Nat.{ℕ, pred, _+_, _-_, _*_}
+use Prim.Native.Nat.{ℕ, pred, _-_}
 use mathlib.Core.Path.{_≡_, ap, _∙_}
 use mathlib.Core.Logic.{_≢_}
 use mathlib.Core.List.{List}
 use native.Mathlib.Omega.{arith}
-use lib.ListN.{length, take, drop, List·getD-eq-default}
+use lib.ListN.{length, List·getD-eq-default}
 use Rattle.rules.specs.declared.Vertex.{Vertex}
-use Rattle.rules.specs.Record.{number, first, decode, records, vertices, noVertex, at}
+use Rattle.rules.specs.Record.{first, records, vertices, noVertex, at}
 use Rattle.rules.specs.Decide.{highest}
 use Rattle.rules.proofs.Records.{vertices-length, vertices-at}
-use Rattle.table.proofs.Names.{record-part}
+use Rattle.search.specs.Search.{nameAt}
 
 pub highest-empty : (t : List ℕ) → records first t ≡ 0 → highest (vertices first t) ≡ 0
 unfolding highest
 highest-empty t e = ap (λ (v : Vertex). v .round) (List·getD-eq-default (vertices first t) noVertex (omega (arith, vertices-length first t)))
 
-pub highest-last : (t : List ℕ) (k : ℕ) → k ≡ records first t → k ≢ 0
-    → highest (vertices first t) ≡ number 4 (take (138 * (k - 1) + 138 - 138 * (k - 1)) (drop (138 * (k - 1)) t)) 0
-unfolding highest decode
+pub highest-last : (t : List ℕ) (k : ℕ) → k ≡ records first t → k ≢ 0 → highest (vertices first t) ≡ nameAt t (k - 1) .round
+unfolding highest
 highest-last t k e z =
     let last : pred (length (vertices first t)) ≡ k - 1 = omega (arith, vertices-length first t) in
-    rw (record-part t (k - 1)) (ap (λ (j : ℕ). at (vertices first t) j .round) last ∙ ap (λ (v : Vertex). v .round) (vertices-at first t (k - 1) (omega arith)))
+    ap (λ (j : ℕ). at (vertices first t) j .round) last ∙ ap (λ (v : Vertex). v .round) (vertices-at first t (k - 1) (omega arith))

@@ -1,4 +1,4 @@
--- `table::place_of` meets its contract. The loop's invariant: what is left to halve answers as the whole.
+-- `search::place_of` meets its contract. The loop's invariant: what is left to halve answers as the whole.
 -- The measure is how many records are left.
 -- Assumes nothing.
 use Prim.Native.Nat.{ℕ, _+_, _-_, _/_, _≤_}
@@ -7,12 +7,12 @@ use mathlib.Core.Bool.{Bool}
 use mathlib.Core.List.{List}
 use Rattle.rules.specs.declared.Name.{Name}
 use Rattle.rules.specs.Record.{below}
-use Rattle.table.specs.Search.{halves, nameAt, placeOf}
-use Rattle.table.proofs.Search.{place-start, halves-end, halved, halves-turn}
+use Rattle.search.specs.Search.{halves, nameAt, placeOf}
+use Rattle.search.proofs.Search.{place-start, raised-is, halves-end, halved, halves-turn}
 use native.Mathlib.Omega.{arith}
 use borrow.Author.Needs.{needs}
-use Rattle.table.proofs.place_of.Statement.{statement}
-use Rattle.table.proofs.place_of.Tie as tie
+use Rattle.search.proofs.place_of.Statement.{statement}
+use Rattle.search.proofs.place_of.Tie as tie
 
 -- record p stands below x
 abbrev lower : List ℕ → Name → ℕ → Bool
@@ -30,16 +30,18 @@ loop-holds c = (omega arith, omega arith, place-start (c .before .args .table .n
 loop-less : tie.Need-loop-less Inv-loop μ-loop
 loop-less c =
     let l = c .before .before .before .before .before in
-    halved (c .before .before .below .result) (l .loop .lo) (l .loop .hi) _ _ _ refl (omega arith) (c .before .raised .ensures) (c .lowered .ensures) .less
+    let up = raised-is (c .before .before .below .result) (l .loop .lo) (l .loop .lo + (l .loop .hi - l .loop .lo) / 2) _ (c .before .raised .ensures) (omega arith) in
+    halved (c .before .before .below .result) (l .loop .lo) (l .loop .hi) _ _ _ refl (omega arith) up (c .lowered .ensures) .less
 
 loop-again : tie.Need-loop-again Inv-loop μ-loop
 loop-again c =
     let l = c .before .before .before .before .before in
     let a = l .before .before .args in
     let held = c .before .before .below .result in
-    let h = halved held (l .loop .lo) (l .loop .hi) _ _ _ refl (omega arith) (c .before .raised .ensures) (c .lowered .ensures) in
+    let up = raised-is (c .before .before .below .result) (l .loop .lo) (l .loop .lo + (l .loop .hi - l .loop .lo) / 2) _ (c .before .raised .ensures) (omega arith) in
+    let h = halved held (l .loop .lo) (l .loop .hi) _ _ _ refl (omega arith) up (c .lowered .ensures) in
     let e : held ≡ lower (a .table .now) (a .x) (l .loop .lo + (l .loop .hi - l .loop .lo) / 2) = rw (← c .before .before .before .name-at .ensures) (c .before .before .below .ensures) in
-    (h .ordered, omega (arith, h .within), l .loop .inv .2 ∙ halves-turn held (l .loop .lo) (l .loop .hi) _ _ _ refl (omega arith) (c .before .raised .ensures) (c .lowered .ensures) (lower (a .table .now) (a .x)) e)
+    (h .ordered, omega (arith, h .within), l .loop .inv .2 ∙ halves-turn held (l .loop .lo) (l .loop .hi) _ _ _ refl (omega arith) up (c .lowered .ensures) (lower (a .table .now) (a .x)) e)
 
 returns : tie.Need-returns Inv-loop μ-loop
 returns c =

@@ -1,10 +1,10 @@
--- `table::same` meets its contract, part by part.
+-- `search::same` meets its contract, part by part.
 -- Assumes nothing.
 use borrow.Author.Tests.{eq-eqb, ne-eqb}
 use Rattle.folds.specs.Folds.{_and_}
 use Rattle.rules.specs.Record.{sameName}
-use Rattle.table.proofs.same.Statement.{statement}
-use Rattle.table.proofs.same.Tie as tie
+use Rattle.search.proofs.same.Statement.{statement}
+use Rattle.search.proofs.same.Tie as tie
 
 returns : tie.Need-returns
 unfolding sameName _and_

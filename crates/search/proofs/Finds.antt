@@ -16,9 +16,9 @@ use Rattle.rules.specs.Record.{first, records, vertices, at, nameOf, sameName, 
 use Rattle.rules.proofs.Names.{Below, below-is, is-below, below-trans}
 use Rattle.rules.proofs.Records.{vertices-at, vertices-length, find-first}
 use Rattle.rules.proofs.Accepted.{Accepted, rising}
-use Rattle.table.specs.Search.{nameAt, placeOf, findBelow}
-use Rattle.table.proofs.Search.{Falls, halves-first, found-here, found-other, found-past}
-use Rattle.table.proofs.Earlier.{Rise, not-lower, not-higher, higher}
+use Rattle.search.specs.Search.{nameAt, placeOf, findBelow}
+use Rattle.search.proofs.Search.{Falls, halves-first, found-here, found-other, found-past}
+use Rattle.search.proofs.Rise.{Rise, not-lower, not-higher, higher}
 
 -- ---- what the search by halves finds where names rise
 

@@ -1,0 +1,118 @@
+// The search by name in a table, by halves, and the highest round. Nothing is asked of the table: what is answered on names that do not
+// rise is defined too.
+ghost use mathlib.Core.Path.{_≡_};
+ghost use mathlib.Core.Bool.{cond};
+ghost use Prim.Native.Nat.{_+_, min};
+ghost use Rattle.rules.specs.Record.{first, records, vertices, sameName};
+ghost use Rattle.rules.specs.Record.{below as isBelow};
+ghost use Rattle.rules.specs.Decide.{highest};
+ghost use Rattle.search.specs.Search.{nameAt, placeOf, findBelow};
+use record::part;
+use record::records_of;
+use rules::Name;
+use tally::smaller;
+
+// ---- names
+
+// x stands below y, by round, then author, then mark.
+pub fn below(x: Name, y: Name) -> bool
+    ensures { λ r. ⌜ r ≡ isBelow x y ⌝ }
+{
+    if x.round != y.round {
+        return x.round < y.round;
+    }
+    if x.author != y.author {
+        return x.author < y.author;
+    }
+    x.mark < y.mark
+}
+
+pub fn same(x: Name, y: Name) -> bool
+    ensures { λ r. ⌜ r ≡ sameName x y ⌝ }
+{
+    if x.round != y.round {
+        return false;
+    }
+    if x.author != y.author {
+        return false;
+    }
+    x.mark == y.mark
+}
+
+// The name of the record at p.
+pub fn name_at(table: &[u8], p: usize) -> Name
+    ensures { λ r. ⌜ r ≡ nameAt (now (table .entry)) p ⌝ }
+{
+    record::name_of(part(table, p))
+}
+
+// ---- the search by halves
+
+// Past the middle, where the test held there. No search reaches the largest number there is.
+pub fn raised(held: bool, lo: usize, m: usize) -> usize
+    ensures { λ r. ⌜ r ≡ cond held (min (m + 1) 18446744073709551615) lo ⌝ }
+{
+    if held {
+        if m < 18446744073709551615 {
+            return m + 1;
+        }
+        return m;
+    }
+    lo
+}
+
+// Down to the middle, where it did not.
+pub fn lowered(held: bool, hi: usize, m: usize) -> usize
+    ensures { λ r. ⌜ r ≡ cond held hi m ⌝ }
+{
+    if held { hi } else { m }
+}
+
+// Where x stands or would stand among the first k records, if their names rise.
+fn place_of(table: &[u8], k: usize, x: Name) -> usize
+    ensures { λ r. ⌜ r ≡ placeOf (now (table .entry)) k x ⌝ }
+{
+    let mut lo: usize = 0;
+    let mut hi: usize = k;
+    while lo < hi {
+        let m = lo + (hi - lo) / 2;
+        let held = below(name_at(table, m), x);
+        lo = raised(held, lo, m);
+        hi = lowered(held, hi, m);
+    }
+    lo
+}
+
+// The place among the first `count` records, or all if there are fewer, where the name stands or would stand if their names rise.
+pub fn place(table: &[u8], count: usize, x: Name) -> usize
+    ensures { λ r. ⌜ r ≡ placeOf (now (table .entry)) (min count (records first (now (table .entry)))) x ⌝ }
+{
+    place_of(table, smaller(count, records_of(table)), x)
+}
+
+// The position of the name among the first `count` records, or how many those are: all, if there are fewer.
+pub fn find(table: &[u8], count: usize, x: Name) -> usize
+    ensures { λ r. ⌜ r ≡ findBelow (now (table .entry)) (min count (records first (now (table .entry)))) x ⌝ }
+{
+    let k = smaller(count, records_of(table));
+    let m = place_of(table, k, x);
+    if m < k {
+        if same(name_at(table, m), x) {
+            return m;
+        }
+    }
+    k
+}
+
+// ---- the highest round
+
+// The round of the last record; 0 for an empty table.
+pub fn highest_of(table: &[u8]) -> u32
+    ensures { λ r. ⌜ r ≡ highest (vertices first (now (table .entry))) ⌝ }
+{
+    let k = records_of(table);
+    if k == 0 {
+        return 0;
+    }
+    name_at(table, k - 1).round
+}

@@ -13,10 +13,7 @@ pub struct Numbered {
 fn at(number: u32, position: usize) -> Numbered
     ensures { λ r. ⌜ r ≡ numberAt number position ⌝ }
 {
-    Numbered {
-        number,
-        position,
-    }
+    Numbered { number, position }
 }
 
 // The record's position; 0 for a refusal that is of no record.

@@ -1,6 +1,6 @@
 -- Names: one name or two, and which is below.
 -- Assumes nothing.
-use Prim.Native.Nat.{_≤_, _<_}
+use Prim.Native.Nat.{ℕ, pred, _-_, _≤_, _<_}
 use mathlib.Core.Path.{_≡_, refl, ap, _∙_}
 use mathlib.Core.Logic.{_⊎_, inl, inr}
 use mathlib.Core.Bool.{true}
@@ -10,10 +10,15 @@ use borrow.Author.Tests.{eqb-true, eq-eqb, ltb-true, lt-ltb}
 use Rattle.folds.specs.Folds.{_and_, _or_}
 use Rattle.folds.proofs.Tests.{and-left, and-right, and-true, or-cases, or-left, or-right, compare}
 use Rattle.rules.specs.declared.Name.{Name}
-use Rattle.rules.specs.Record.{sameName, below}
+use Rattle.rules.specs.declared.Vertex.{Vertex}
+use Rattle.rules.specs.Record.{entry, entryName, named, sameName, below}
 
 pub name-path : (x y : Name) → x .round ≡ y .round → x .author ≡ y .author → x .mark ≡ y .mark → x ≡ y
 name-path x y p q r = λ i. record { round = p i; author = q i; mark = r i }
+
+-- the name that code makes for entry i
+pub entry-named : (v : Vertex) (i : ℕ) → named (v .round - 1) i (entry v i) ≡ entryName v i
+entry-named v i = let e : v .round - 1 ≡ pred (v .round) = omega arith in name-path _ _ e refl refl
 
 -- ---- the test for one name
 

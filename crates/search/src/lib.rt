@@ -56,7 +56,7 @@ pub fn raised(held: bool, lo: usize, m: usize) -> usize
         if m < 18446744073709551615 {
             return m + 1;
         }
-        return m;
+        return 18446744073709551615;
     }
     lo
 }

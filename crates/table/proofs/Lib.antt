@@ -1,9 +1,5 @@
-pub mod Search
-pub mod Names
+pub mod Above
 pub mod Entries
 pub mod Earlier
 pub mod Records
-pub mod Calls
-pub mod Finds
 pub mod Unique
-pub mod Highest

@@ -1,29 +1,26 @@
--- Checks 4 to 9 of one record, in order: what answers at each, and what is known of a record that reaches check 8.
+-- The rows of one record, in order, and what is known of a record that is reached, and of one that has reached check 8.
 -- Assumes nothing.
 use Prim.Native.Nat.{ℕ, _≤_, _<_}
-use mathlib.Core.Path.{_≡_, sym, ap, _∙_}
-use mathlib.Core.Logic.{_≢_}
-use mathlib.Core.Bool.{true, false}
+use mathlib.Core.Path.{_≡_, sym, _∙_}
+use mathlib.Core.Bool.{true, false, not}
 use mathlib.Core.List.{List}
 use native.Mathlib.Omega.{arith}
-use borrow.Author.Tests.{eqb-false, leb-true, eq-eqb, ne-eqb, lt-ltb, le-ltb}
+use lib.Dec.{eqb}
+use borrow.Author.Tests.{eqb-false, leb-true}
 use Rattle.folds.proofs.Tests.{and-left, and-right, or-neither}
 use Rattle.rules.specs.declared.Vertex.{Vertex}
-use Rattle.rules.specs.declared.Refusal.the-variants.{Sum, Fields, Rising, Entries, Earlier, Round}
-use Rattle.rules.specs.declared.Checked.{Checked}
-use Rattle.rules.specs.declared.Checked.the-variants.{Passed, Refused}
 use Rattle.rules.specs.Authors.{isCount}
 use Rattle.rules.specs.Record.{first, recordAt, decode, sumOf, records, vertices, at}
-use Rattle.rules.specs.Refusals.{_when_, _then_, eachTo}
+use Rattle.rules.specs.Refusals.{Told, refusal, passed, _when_, _then_, eachTo}
 use Rattle.rules.specs.Check.{sumDiffers, fieldsWrong, notAbove, entriesWrong, notEarlier, roundAbove, checkRecord}
 use Rattle.rules.proofs.Records.{vertices-at}
-use Rattle.rules.proofs.Refusals.{each-passed}
+use Rattle.rules.proofs.Refusals.{when-passed, then-both, then-assoc, each-passed}
 use Rattle.rules.proofs.Accepted.{record-passed}
-use Rattle.table.specs.Ready.{Ready}
-use Rattle.table.proofs.Names.{lentPart, record-part}
+use Rattle.table.specs.Ready.{Reached, Ready}
+use Rattle.table.specs.Rows.{fourToSeven}
 
 -- the check of the record at p, of the first edition
-abbrev pub checkAt : ℕ → List ℕ → ℕ → Checked
+abbrev pub checkAt : ℕ → List ℕ → ℕ → Told (Unit {0})
 checkAt n t = checkRecord first n t (vertices first t)
 
 -- a count is at most 31
@@ -31,62 +28,34 @@ pub count-few : (n : ℕ) → isCount n ≡ true → n ≤ 31
 unfolding isCount
 count-few n e = leb-true n 31 (and-left _ _ (and-right _ _ e))
 
--- the bytes that are lent, decoded, are the vertex at p
-pub decoded-at : (t : List ℕ) (p : ℕ) (v : Vertex) → p < records first t → v ≡ decode first (lentPart t p) → v ≡ at (vertices first t) p
-decoded-at t p v w e = e ∙ ap (decode first) (record-part t p) ∙ sym (vertices-at first t p w)
+-- the rows that need no search, then 8, then 9
+pub rows : (n : ℕ) (t : List ℕ) (p : ℕ)
+    → checkAt n t p ≡ fourToSeven n t p then refusal 8 p when notEarlier (vertices first t) p then refusal 9 p when roundAbove (at (vertices first t) p)
+unfolding checkRecord
+rows n t p = simp then-assoc
 
-module _ (n : ℕ) (t : List ℕ) (p : ℕ) (w : p < records first t) (v : Vertex) (is-v : v ≡ decode first (lentPart t p)) (sum : ℕ) (is-s : sum ≡ sumOf first (lentPart t p)) where
-  is : v ≡ at (vertices first t) p
-  is = decoded-at t p v w is-v
+-- the sum of the bytes that are lent, against the one that the vertex carries
+pub sum-is : (n : ℕ) (t : List ℕ) (p : ℕ) (v : Vertex) (b : List ℕ) → Reached n t p v → b ≡ recordAt first t p → not (eqb (sumOf first b) (v .sum)) ≡ sumDiffers first t (vertices first t) p
+unfolding sumDiffers
+sum-is n t p v b R e = rw (R .is, e)
 
-  is-sum : sum ≡ sumOf first (recordAt first t p)
-  is-sum = is-s ∙ ap (sumOf first) (record-part t p)
+-- the record that is read is reached once those before it have passed
+pub reached : (n : ℕ) (t : List ℕ) (p : ℕ) (v : Vertex) → isCount n ≡ true → p < records first t → v ≡ decode first (recordAt first t p) → eachTo (checkAt n t) p ≡ passed → Reached n t p v
+reached n t p v count w e before = record { count = count; within = w; is = e ∙ sym (vertices-at first t p w); before = before }
 
-  pub refused-4 : sum ≢ v .sum → checkAt n t p ≡ Refused (Sum p)
-  unfolding checkRecord _when_ _then_ sumDiffers
-  refused-4 d = rw (← is, ← is-sum, ne-eqb _ _ d)
-
-  module _ (e4 : sum ≡ v .sum) where
-    f4 : sumDiffers first t (vertices first t) p ≡ false
-    unfolding sumDiffers
-    f4 = rw (← is, ← is-sum, eq-eqb _ _ e4)
-
-    pub refused-5 : fieldsWrong n v ≡ true → checkAt n t p ≡ Refused (Fields p)
-    unfolding checkRecord _when_ _then_
-    refused-5 e = rw (f4, ← is, e)
-
-    module _ (e5 : fieldsWrong n v ≡ false) where
-      pub refused-6 : notAbove (vertices first t) p ≡ true → checkAt n t p ≡ Refused (Rising p)
-      unfolding checkRecord _when_ _then_
-      refused-6 e = rw (f4, ← is, e5, e)
-
-      module _ (e6 : notAbove (vertices first t) p ≡ false) where
-        pub refused-7 : entriesWrong n v ≡ true → checkAt n t p ≡ Refused (Entries p)
-        unfolding checkRecord _when_ _then_
-        refused-7 e = rw (f4, ← is, e5, e6, e)
-
-        module _ (e7 : entriesWrong n v ≡ false) where
-          pub refused-8 : notEarlier (vertices first t) p ≡ true → checkAt n t p ≡ Refused (Earlier p)
-          unfolding checkRecord _when_ _then_
-          refused-8 e = rw (f4, ← is, e5, e6, e7, e)
-
-          module _ (e8 : notEarlier (vertices first t) p ≡ false) where
-            pub refused-9 : 1400 < v .round → checkAt n t p ≡ Refused (Round p)
-            unfolding checkRecord _when_ _then_ roundAbove
-            refused-9 l = rw (f4, ← is, e5, e6, e7, e8, lt-ltb 1400 (v .round) l)
-
-            pub passed-all : v .round ≤ 1400 → checkAt n t p ≡ Passed
-            unfolding checkRecord _when_ _then_ roundAbove
-            passed-all l = rw (f4, ← is, e5, e6, e7, e8, le-ltb 1400 (v .round) l)
-
--- what is known at check 8
-pub ready : (n : ℕ) (t : List ℕ) (p : ℕ) (v : Vertex) → v ≡ at (vertices first t) p → isCount n ≡ true → p < records first t → eachTo (checkAt n t) p ≡ Passed → fieldsWrong n v ≡ false → entriesWrong n v ≡ false → Ready n t p v
+-- and has reached check 8 once it has passed the rows that need no search
+pub ready : (n : ℕ) (t : List ℕ) (p : ℕ) (v : Vertex) → Reached n t p v → fourToSeven n t p ≡ passed → Ready n t p v
 unfolding fieldsWrong
-ready n t p v e count w each f g = record {
-  few = count-few n count;
-  within = w;
-  is = e;
-  round-pos = eqb-false _ _ (or-neither _ _ (or-neither _ _ f .1) .0);
-  entries = g;
-  rises = λ i l. record-passed first n t i (omega arith) (each-passed _ p each i l) .above;
-}
+ready n t p v R e =
+    let e4 = then-both _ _ e in
+    let e5 = then-both _ _ (e4 .1) in
+    let e6 = then-both _ _ (e5 .1) in
+    let fields : fieldsWrong n v ≡ false = rw (R .is) (when-passed _ _ _ (e5 .0)) in
+    record {
+      few = count-few n (R .count);
+      within = R .within;
+      is = R .is;
+      round-pos = eqb-false _ _ (or-neither _ _ (or-neither _ _ fields .1) .0);
+      entries = rw (R .is) (when-passed _ _ _ (e6 .1));
+      rises = λ i l. let w : p < records first t = R .within in record-passed first n t i (omega arith) (each-passed _ p (R .before) i l) .above;
+    }

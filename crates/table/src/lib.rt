@@ -1,16 +1,19 @@
 // The check of a table: each row of document 01's list is a function that answers, and the first that refuses is the answer.
 ghost use mathlib.Core.Path.{_≡_};
-ghost use mathlib.Core.Bool.{not};
-ghost use Prim.Native.Nat.{ℕ, _<_, _≤_};
+ghost use mathlib.Core.Bool.{true, not};
+ghost use Prim.Native.Nat.{_<_, _≤_};
 ghost use lib.Dec.{eqb};
 ghost use lib.ListN.{getD};
 ghost use Rattle.folds.specs.Folds.{countTo};
 ghost use Rattle.rules.specs.Authors.{isCount};
-ghost use Rattle.rules.specs.Record.{first, records, vertices, at};
+ghost use Rattle.rules.specs.Record.{first, sumOf, records, vertices};
+ghost use Rattle.rules.specs.declared.Checked.the-variants as Checked;
 ghost use Rattle.rules.specs.Refusals.{refusal, checkTells, _when_, _then_, eachTo};
-ghost use Rattle.rules.specs.Check.{sumDiffers, fieldsWrong, notAbove, entriesWrong, notEarlier, roundAbove, checkRecord, checkTable};
+ghost use Rattle.rules.specs.Check.{fieldsWrong, notAbove, entriesWrong, notEarlier, roundAbove, checkRecord, checkTable};
 ghost use Rattle.rules.specs.Check.{check as checked};
-ghost use Rattle.table.specs.Ready.{Read, Reached, Ready};
+ghost use Rattle.table.specs.Ready.{Reached, Ready};
+ghost use Rattle.table.specs.Rows.{fourToSeven};
+use record::RECORD;
 use record::part;
 use record::records_of;
 use rules::Checked;
@@ -63,7 +66,7 @@ fn is_count(n: u8) -> bool
     n % 3 == 1
 }
 
-pub fn check_count(n: u8) -> Checked
+fn check_count(n: u8) -> Checked
     ensures { λ r. ⌜ checkTells r ≡ refusal 1 0 when not (isCount n) ⌝ }
 {
     if is_count(n) {
@@ -72,12 +75,12 @@ pub fn check_count(n: u8) -> Checked
     Checked::Refused(Refusal::Authors)
 }
 
-// ---- 4 to 9: one record
+// ---- 4 to 9: the test of each row
 
-fn sum_row(record: &[u8], sum: u16, p: usize) -> Checked
-    ensures { λ r. ⌜ checkTells r ≡ refusal 4 p when not (eqb (sumOf first (now (record .entry))) sum) ⌝ }
+fn sum_differs(b: &[u8], sum: u16) -> bool
+    ensures { λ r. ⌜ r ≡ not (eqb (sumOf first (now (b .entry))) sum) ⌝ }
 {
-    row(Refusal::Sum { position: p }, record::sum_of(record) != sum)
+    record::sum_of(b) != sum
 }
 
 fn fields_wrong(n: u8, v: Vertex) -> bool
@@ -92,5 +95,185 @@ fn fields_wrong(n: u8, v: Vertex) -> bool
     if v.mark == 0 {
         return true;
     }
-    n <= v.author
+    if v.author < n {
+        return false;
+    }
+    true
+}
+
+// Position above 0, and the name is not above the one before it.
+fn not_above(table: &[u8], p: usize) -> bool
+    requires { ⌜ p < records first (now table) ⌝ }
+    ensures { λ r. ⌜ r ≡ notAbove (vertices first (now (table .entry))) p ⌝ }
+{
+    if p == 0 {
+        return false;
+    }
+    let held = below(name_at(table, p - 1), name_at(table, p));
+    if held { false } else { true }
+}
+
+// How many of the first k entries are references.
+fn filled(refs: [u32; 31], k: usize) -> usize
+    requires { ⌜ k ≤ 31 ⌝ }
+    ensures { λ r. ⌜ r ≡ countTo (λ i. not (eqb (getD refs i 0) 0)) k ⌝ }
+{
+    let mut c: usize = 0;
+    let mut i: usize = 0;
+    while i < k {
+        if refs[i] != 0 {
+            c += 1;
+        }
+        i += 1;
+    }
+    c
+}
+
+fn entries_wrong(n: u8, v: Vertex) -> bool
+    requires { ⌜ n ≤ 31 ⌝ }
+    ensures { λ r. ⌜ r ≡ entriesWrong n v ⌝ }
+{
+    let refs = v.refs;
+    let all = filled(refs, ENTRIES);
+    if v.round == 1 {
+        if 0 < all {
+            return true;
+        }
+    }
+    if filled(refs, n as usize) < all {
+        return true;
+    }
+    if 1 < v.round {
+        return all < tally::quorum_of(n);
+    }
+    false
+}
+
+// Whether some entry names no earlier record. Each reference is looked for by halves among the earlier records, whose names rise;
+// the first that stands nowhere leaves both loops.
+fn not_earlier(n: u8, table: &[u8], p: usize, v: Vertex) -> bool
+    requires { ⌜ Ready n (now table) p v ⌝ }
+    ensures { λ r. ⌜ r ≡ notEarlier (vertices first (now (table .entry))) p ⌝ }
+{
+    let refs = v.refs;
+    let k = n as usize;
+    let mut i: usize = 0;
+    let missing = 'entries: loop {
+        if k <= i {
+            break 'entries false;
+        }
+        let mark = refs[i];
+        if mark != 0 {
+            let x = Name {
+                round: v.round - 1,
+                author: i as u8,
+                mark,
+            };
+            let mut lo: usize = 0;
+            let mut hi: usize = p;
+            loop {
+                if hi <= lo {
+                    break 'entries true;
+                }
+                let m = lo + (hi - lo) / 2;
+                let y = name_at(table, m);
+                if same(y, x) {
+                    break;
+                }
+                let held = below(y, x);
+                lo = raised(held, lo, m);
+                hi = lowered(held, hi, m);
+            }
+        }
+        i += 1;
+    };
+    missing
+}
+
+fn round_above(v: Vertex) -> bool
+    ensures { λ r. ⌜ r ≡ roundAbove v ⌝ }
+{
+    LAST_ROUND < v.round
+}
+
+// ---- the rows in order
+
+// What needs no search. All records before p have passed.
+fn four_to_seven(n: u8, table: &[u8], p: usize, v: Vertex) -> Checked
+    requires { ⌜ Reached n (now table) p v ⌝ }
+    ensures { λ r. ⌜ checkTells r ≡ fourToSeven n (now (table .entry)) p ⌝ }
+{
+    let four = row(
+        Refusal::Sum { position: p },
+        sum_differs(part(table, p), v.sum),
+    );
+    let five = row(Refusal::Fields { position: p }, fields_wrong(n, v));
+    let six = row(Refusal::Rising { position: p }, not_above(table, p));
+    let seven = row(Refusal::Entries { position: p }, entries_wrong(n, v));
+    first_of(four, first_of(five, first_of(six, seven)))
+}
+
+// 4 to 9. The search of row 8 relies on what the rows before it say.
+fn check_record(n: u8, table: &[u8], p: usize, v: Vertex) -> Checked
+    requires { ⌜ Reached n (now table) p v ⌝ }
+    ensures { λ r. ⌜ checkTells r ≡ checkRecord first n (now (table .entry)) (vertices first (now (table .entry))) p ⌝ }
+{
+    let c = four_to_seven(n, table, p, v);
+    match c {
+        Checked::Passed => {}
+        Checked::Refused(r) => return Checked::Refused(r),
+    }
+    let eight = row(
+        Refusal::Earlier { position: p },
+        not_earlier(n, table, p, v),
+    );
+    let nine = row(Refusal::Round { position: p }, round_above(v));
+    first_of(eight, nine)
+}
+
+// Records are taken by position from 0.
+fn check_records(n: u8, table: &[u8]) -> Checked
+    requires { ⌜ isCount n ≡ true ⌝ }
+    ensures { λ r. ⌜ checkTells r ≡ eachTo (checkRecord first n (now (table .entry)) (vertices first (now (table .entry)))) (records first (now (table .entry))) ⌝ }
+{
+    let k = records_of(table);
+    let mut p: usize = 0;
+    while p < k {
+        let c = check_record(n, table, p, record::decode(part(table, p)));
+        match c {
+            Checked::Passed => {}
+            Checked::Refused(r) => return Checked::Refused(r),
+        }
+        p += 1;
+    }
+    Checked::Passed
+}
+
+// ---- the whole
+
+// 2 and 3, then the records.
+fn check_table(n: u8, table: &[u8]) -> Checked
+    requires { ⌜ isCount n ≡ true ⌝ }
+    ensures { λ r. ⌜ checkTells r ≡ checkTable first n (now (table .entry)) ⌝ }
+{
+    let two = row(Refusal::Length, table.len() % RECORD != 0);
+    let three = row(Refusal::Records, MOST < records_of(table));
+    let c = first_of(two, three);
+    match c {
+        Checked::Passed => {}
+        Checked::Refused(r) => return Checked::Refused(r),
+    }
+    check_records(n, table)
+}
+
+// 1, then the table.
+pub fn check(n: u8, table: &[u8]) -> Checked
+    ensures { λ r. ⌜ checkTells r ≡ checked first n (now (table .entry)) ⌝ }
+{
+    let c = check_count(n);
+    match c {
+        Checked::Passed => {}
+        Checked::Refused(r) => return Checked::Refused(r),
+    }
+    check_table(n, table)
 }

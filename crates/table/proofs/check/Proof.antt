@@ -1,42 +1,34 @@
--- `table::check` meets its contract: checks 1 to 3 in order, and then the records.
+-- `table::check` meets its contract.
 -- Assumes nothing.
 use mathlib.Core.Path.{sym, _∙_}
-use Rattle.table.proofs.Calls.{refused-1, refused-2, refused-3, records-answer}
+use Rattle.folds.proofs.Tests.{not-false}
+use Rattle.rules.specs.Record.{first}
+use Rattle.rules.specs.Check.{check, checkTable}
+use Rattle.rules.proofs.Refusals.{when-passed, then-passed, hands-on, goes-on}
 use borrow.Author.Needs.{needs}
 use Rattle.table.proofs.check.Statement.{statement}
 use Rattle.table.proofs.check.Tie as tie
 
 returns : tie.Need-returns
+unfolding check
 returns c =
-    let i = c .before .before in
-    let a = i .before .before .args in
-    sym (refused-2 (a .n) (a .table .now) (sym (i .is-count .ensures) ∙ c .before .if1 .taken) (c .if2 .taken))
+    let f = c .before .before .before in
+    hands-on _ (checkTable first (f .before .before .args .n) (f .before .before .args .table .now)) (f .check-count .ensures) (c .before .c .given .1)
+
+check-table-requires : tie.Need-check-table-requires
+check-table-requires c κs = not-false _ (when-passed _ _ _ (goes-on (c .before .before .check-count .ensures) (c .enum-told .given .1)))
 
 returns-2 : tie.Need-returns-2
+unfolding check
 returns-2 c =
-    let i = c .before .before .before in
-    let a = i .before .before .args in
-    sym (refused-3 (a .n) (a .table .now) (sym (i .is-count .ensures) ∙ c .before .before .if1 .taken) (c .before .if2 .left) (c .if3 .taken))
-
-check-records-requires : tie.Need-check-records-requires
-check-records-requires c κs =
-    let i = c .before .before .before in
-    sym (i .is-count .ensures) ∙ c .before .before .if1 .taken
-
-returns-3 : tie.Need-returns-3
-returns-3 c =
-    let i = c .before .before .before .before in
-    let a = i .before .before .args in
-    c .check-records .ensures
-    ∙ sym (records-answer (a .n) (a .table .now) (sym (i .is-count .ensures) ∙ c .before .before .before .if1 .taken) (c .before .before .if2 .left) (c .before .if3 .left))
-
-returns-4 : tie.Need-returns-4
-returns-4 c =
-    let i = c .before in
-    let a = i .before .before .args in
-    sym (refused-1 (a .n) (a .table .now) (sym (i .is-count .ensures) ∙ c .if1 .left))
+    let f = c .before .before .before in
+    c .check-table .ensures ∙ sym (then-passed _ _ (goes-on (f .check-count .ensures) (c .before .enum-told .given .1)))
 
 pub check-spec : {M : Type 1} → statement M
 check-spec =
     tie.close
-    (tie.spec (λ c κs. search needs) returns returns-2 check-records-requires returns-3 returns-4)
+    (tie.spec
+    (λ c κs. search needs) (λ c. search needs) (λ c. search needs)
+    returns
+    check-table-requires
+    returns-2)

@@ -1,7 +1,7 @@
 -- `table::not_above` meets its contract: the names of two records are compared.
 -- Assumes nothing.
 use native.Mathlib.Omega.{arith}
-use Rattle.table.proofs.Names.{first-above, above-is}
+use Rattle.table.proofs.Above.{first-above, above-is}
 use mathlib.Core.Path.{sym, _∙_}
 use borrow.Author.Needs.{needs}
 use Rattle.table.proofs.not_above.Statement.{statement}

@@ -9,9 +9,11 @@ use mathlib.Core.Bool.{true, false}
 use Rattle.folds.specs.Folds.{anyTo}
 use Rattle.folds.proofs.Laws.{any-start, any-next}
 use Rattle.rules.specs.Record.{entry, sameName, below, named}
-use Rattle.table.specs.Search.{nameAt}
-use Rattle.table.proofs.Search.{halved}
-use Rattle.table.proofs.Earlier.{rise, Searched, searched-start, searched-turn, missing, missing-empty, entry-named, none-missing, some-missing, not-missing}
+use Rattle.rules.proofs.Names.{entry-named}
+use Rattle.search.specs.Search.{nameAt}
+use Rattle.search.proofs.Search.{raised-is, halved}
+use Rattle.search.proofs.Rise.{Searched, searched-start, searched-turn}
+use Rattle.table.proofs.Earlier.{rise, missing, missing-empty, none-missing, some-missing, not-missing}
 use native.Mathlib.Omega.{arith}
 use borrow.Author.Needs.{needs}
 use Rattle.table.proofs.not_earlier.Statement.{statement}
@@ -39,7 +41,8 @@ loop-less : tie.Need-loop-less Inv-loop μ-loop Inv-entries μ-entries
 loop-less c =
     let b = c .before .before in
     let l = b .before .before .before .before .before in
-    halved (b .below .result) (l .loop .lo) (l .loop .hi) _ _ _ refl (omega arith) (c .before .raised .ensures) (c .lowered .ensures) .less
+    let up = raised-is (b .below .result) (l .loop .lo) (l .loop .lo + (l .loop .hi - l .loop .lo) / 2) _ (c .before .raised .ensures) (omega arith) in
+    halved (b .below .result) (l .loop .lo) (l .loop .hi) _ _ _ refl (omega arith) up (c .lowered .ensures) .less
 
 loop-again : tie.Need-loop-again Inv-loop μ-loop Inv-entries μ-entries
 loop-again c =
@@ -51,8 +54,9 @@ loop-again c =
     let x = named (s .args .v .round - 1) (l .before .before .before .before .entries .i) (entry (s .args .v) (l .before .before .before .before .entries .i)) in
     let m = l .loop .lo + (l .loop .hi - l .loop .lo) / 2 in
     let other : sameName (nameAt t m) x ≡ false = rw (← y .name-at .ensures, ← b .before .before .same .ensures) (b .before .if4 .left) in
+    let up = raised-is (b .below .result) (l .loop .lo) m _ (c .before .raised .ensures) (omega arith) in
     let held : b .below .result ≡ below (nameAt t m) x = rw (← y .name-at .ensures) (b .below .ensures) in
-    searched-turn t (s .args .p) x (rise (s .args .n) t (s .args .p) (s .args .v) (s .pre)) (l .loop .lo) (l .loop .hi) m refl (omega arith) (l .loop .inv) other (b .below .result) _ _ held (c .before .raised .ensures) (c .lowered .ensures)
+    searched-turn t (s .args .p) x (rise (s .args .n) t (s .args .p) (s .args .v) (s .pre)) (l .loop .lo) (l .loop .hi) m refl (omega arith) (l .loop .inv) other (b .below .result) _ _ held up (c .lowered .ensures)
 
 entries-again : tie.Need-entries-again Inv-loop μ-loop Inv-entries μ-entries
 entries-again c =

@@ -1,0 +1,33 @@
+-- `table::four_to_seven` meets its contract.
+-- Assumes nothing.
+use mathlib.Core.Path.{_∙_}
+use Rattle.table.proofs.Records.{count-few, sum-is}
+use borrow.Author.Needs.{needs}
+use Rattle.table.proofs.four_to_seven.Statement.{statement}
+use Rattle.table.proofs.four_to_seven.Tie as tie
+
+entries-wrong-requires : tie.Need-entries-wrong-requires
+entries-wrong-requires c κs = count-few _ (c .before .before .before .before .before .before .before .before .pre .count)
+
+returns : tie.Need-returns
+returns c =
+    let seven = c .before .before .before in
+    let six = seven .before .before in
+    let five = six .before .before in
+    let four = five .before .before in
+    let g = four .before .before .before .before in
+    let sum = four .before .sum-differs .ensures ∙ sum-is _ _ _ _ _ (g .pre) (four .before .before .part .ensures .bytes) in
+    let fields = rw (g .pre .is) at (five .before .fields-wrong .ensures) in
+    let entries = rw (g .pre .is) at (seven .before .entries-wrong .ensures) in
+    c .first-of3 .ensures
+    ∙ rw (four .row .ensures, sum, c .before .first-of2 .ensures, five .row2 .ensures, fields, c .before .before .first-of .ensures, six .row3 .ensures, six .before .not-above .ensures, seven .row4 .ensures, entries)
+
+pub four-to-seven-spec : {M : Type 1} → statement M
+four-to-seven-spec =
+    tie.close
+    (tie.spec
+    (λ c κs. search needs) (λ c κs. search needs) (λ c κs. search needs) (λ c κs. search needs) (λ c κs. search needs)
+    (λ c κs. search needs) (λ c κs. search needs)
+    entries-wrong-requires
+    (λ c κs. search needs) (λ c κs. search needs) (λ c κs. search needs) (λ c κs. search needs)
+    returns)

@@ -1,47 +1,29 @@
 -- Demand 3 holds of what two settlements leave in their lent buffers: a cell says its slot's decision, and the order places are the written order.
 -- Assumes nothing.
-use Prim.Native.Nat.{ℕ, zero, suc, _+_, _<_}
+use Prim.Native.Nat.{ℕ, _<_}
 use mathlib.Core.Path.{_≡_, refl, sym, ap, _∙_}
-use mathlib.Core.List.{List, [], _∷_, map}
+use mathlib.Core.List.{List}
 use native.Mathlib.Omega.{arith}
-use native.Mathlib.Nat.{not-suc-le-zero, le-of-suc-le-suc}
-use lib.ListN.{length, getD, take, List·getD-append}
+use lib.ListN.{length, getD, take}
 use lib.Seq.{take-at}
 use Rattle.rules.specs.declared.Vertex.{Vertex}
 use Rattle.rules.specs.declared.Counts.{Counts}
 use Rattle.rules.specs.Record.{first, vertices, at}
-use Rattle.rules.specs.Decision.{Decision, undecided, skipped, committed, cell}
+use Rattle.rules.specs.Decision.{Decision, cell, said}
 use Rattle.rules.specs.Decide.{boxSetting, highest, decisions, decisionAt}
 use Rattle.rules.specs.Order.{order}
 use Rattle.rules.specs.Refusals.{Told, gives, refused}
-use Rattle.rules.specs.Settlement.{Buffers, lentCheck, countsOf, settled, settleIf, settle, writtenOver}
+use Rattle.rules.specs.Settlement.{Buffers, lentCheck, countsOf, settled, settleIf, settle}
+use Rattle.rules.proofs.Cells.{cell-at}
 use Rattle.rules.proofs.Decide.{decisions-length}
 use Rattle.agreement.specs.Agreement.{Agree}
-use Rattle.agreement.specs.Buffers.{said, AgreeIn, SettledTo, Demand3InBuffers}
+use Rattle.agreement.specs.Buffers.{AgreeIn, SettledTo, Demand3InBuffers}
 use Rattle.agreement.proofs.Agreement.{demand-3}
-
-said-cell : (d : Decision ℕ) → said (cell d) ≡ d
-said-cell undecided = refl
-said-cell skipped = refl
-said-cell (committed p) = let e : 2 + p ≡ suc (suc p) = omega arith in rw e
 
 -- What a settled call leaves, by its table's decisions and order.
 record Leaves (n : ℕ) (t : List ℕ) (c : Counts) (b : Buffers) : Type 0 where
   cells : (s : ℕ) → s < c .highest → said (getD (b .cells) s 0) ≡ decisionAt (decisions (boxSetting n) n (vertices first t)) s
   places : take (c .written) (b .order) ≡ order (boxSetting n) n (vertices first t)
-
--- a buffer written over: what is new stands first
-over-at : (f : Decision ℕ → ℕ) (ds : List (Decision ℕ)) (old : List ℕ) (s : ℕ) → s < length ds → getD (writtenOver (map f ds) old) s 0 ≡ f (decisionAt ds s)
-over-at f ds old s l = List·getD-append (map f ds) _ 0 s (rw (map-length f ds) l) ∙ map-at f ds s l
-  where
-    map-length : (f : Decision ℕ → ℕ) (ds : List (Decision ℕ)) → length (map f ds) ≡ length ds
-    map-length f [] = refl
-    map-length f (d ∷ ds) = ap suc (map-length f ds)
-
-    map-at : (f : Decision ℕ → ℕ) (ds : List (Decision ℕ)) (s : ℕ) → s < length ds → getD (map f ds) s 0 ≡ f (decisionAt ds s)
-    map-at f [] s l = absurd (not-suc-le-zero l)
-    map-at f (d ∷ ds) zero l = refl
-    map-at f (d ∷ ds) (suc s) l = map-at f ds s (le-of-suc-le-suc l)
 
 leaves : (n : ℕ) (t : List ℕ) (before : Buffers) (c : Counts) (after : Buffers) → SettledTo n t before c after → Leaves n t c after
 unfolding settle settleIf settled countsOf order
@@ -60,7 +42,7 @@ leaves n t before c after S = by-answer (lentCheck (boxSetting n) first n t befo
         let top : c .highest ≡ length ds = ap (λ (x : Counts). x .highest) (sym is) ∙ sym (decisions-length (boxSetting n) n vs) in
         let count : c .written ≡ length (order (boxSetting n) n vs) = ap (λ (x : Counts). x .written) (sym is) in
         record {
-          cells = λ s l. ap (λ (b : Buffers). said (getD (b .cells) s 0)) (sym f) ∙ ap said (over-at cell ds (before .cells) s (omega arith)) ∙ said-cell (decisionAt ds s);
+          cells = λ s l. ap (λ (b : Buffers). said (getD (b .cells) s 0)) (sym f) ∙ cell-at ds (before .cells) s (omega arith);
           places = ap (λ (b : Buffers). take (c .written) (b .order)) (sym f) ∙ rw count (take-at (order (boxSetting n) n vs) _ _ refl);
         }
 

@@ -1,6 +1,6 @@
 -- Demand 3 of what two settlements leave in the buffers that they were lent.
 -- Assumes nothing.
-use Prim.Native.Nat.{ℕ, zero, suc, _<_}
+use Prim.Native.Nat.{ℕ, _<_}
 use mathlib.Core.Path.{_≡_}
 use mathlib.Core.Logic.{_⊎_}
 use mathlib.Core.List.{List, map}
@@ -9,16 +9,10 @@ use Rattle.rules.specs.declared.Name.{Name}
 use Rattle.rules.specs.declared.Counts.{Counts}
 use Rattle.rules.specs.Refusals.{gives}
 use Rattle.rules.specs.Record.{first, vertices, at, nameOf}
-use Rattle.rules.specs.Decision.{Decision, undecided, skipped, committed, Decided, tell}
+use Rattle.rules.specs.Decision.{Decided, tell, said}
 use Rattle.rules.specs.Decide.{boxSetting}
 use Rattle.rules.specs.Settlement.{Buffers, settle}
 use Rattle.agreement.specs.Agreement.{Premises, Begins}
-
--- What a cell says.
-abbrev pub said : ℕ → Decision ℕ
-said zero = undecided
-said (suc zero) = skipped
-said (suc (suc p)) = committed p
 
 -- The name of the record at a position of a table.
 abbrev pub nameIn : List ℕ → ℕ → Name

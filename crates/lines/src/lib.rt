@@ -3,6 +3,7 @@ ghost use mathlib.Core.Path.{_≡_};
 ghost use mathlib.Core.List.{[], _∷_, _++_};
 ghost use Prim.Native.Nat.{_+_, _<_, _≤_};
 ghost use lib.ListN.{length};
+ghost use Rattle.rules.specs.Refusals.{rowOf};
 ghost use Rattle.rules.specs.Program.{lineX, lineS};
 ghost use Rattle.lines.specs.Lines.{lineWord, lineUndecided, lineSkipped, lineCommitted, lineNamed};
 ghost use Rattle.lines.specs.Fills.{Fills};
@@ -127,12 +128,11 @@ fn ended(l: Line, out: &mut [u8]) -> usize
 
 // `X number position`
 pub fn line_refused(r: Refusal, out: &mut [u8]) -> usize
-    ensures { λ k. ⌜ Fills (lineX r) (now (out .entry)) (now (out .exit)) k ⌝ }
+    ensures { λ k. ⌜ Fills (lineX (rowOf r .number) (rowOf r .values)) (now (out .entry)) (now (out .exit)) k ⌝ }
 {
-    let number = refusals::number_of(r);
-    let position = refusals::position_of(r);
-    let l = with_number(begun(b'X'), number as u64);
-    ended(with_number(l, position as u64), out)
+    let x = refusals::number_of(r);
+    let l = with_number(begun(b'X'), x.number as u64);
+    ended(with_number(l, x.position as u64), out)
 }
 
 // `S records highest-round first-undecided written equivocators`

@@ -1,66 +1,68 @@
--- What the lookup answers, by what the check and the search answer.
+-- What the lookup answers, by where the record stands.
 -- Assumes nothing.
-use Prim.Native.Nat.{ℕ, _*_, _/_, _≤_, _<_, min}
-use mathlib.Core.Path.{_≡_, _∙_}
+use Prim.Native.Nat.{ℕ, _*_, _≤_, _<_, min}
+use mathlib.Core.Path.{_≡_, sym, _∙_}
 use mathlib.Core.List.{List}
 use native.Mathlib.Omega.{arith}
-use lib.ListN.{length}
-use borrow.Author.Tests.{lt-leb, le-leb}
+use borrow.Author.Tests.{leb-false, lt-leb, le-leb}
 use Rattle.rules.specs.declared.Name.{Name}
-use Rattle.rules.specs.declared.Refusal.{Refusal}
-use Rattle.rules.specs.declared.Refusal.the-variants.{Unnamed}
-use Rattle.rules.specs.declared.Checked.the-variants.{Passed, Refused}
-use Rattle.rules.specs.declared.LookupAnswer.the-variants as answer
 use Rattle.rules.specs.Record.{first, records, vertices, find}
-use Rattle.rules.specs.Refusals.{_when_, _then_}
+use Rattle.rules.specs.Refusals.{Told, gives, refused, refusal, passed, _when_, _then_}
 use Rattle.rules.specs.Check.{check}
-use Rattle.rules.specs.Lookup.{lookupCheck, lookupAnswer, lookupBegin, lookupLength}
+use Rattle.rules.specs.Lookup.{lookupCheck, lookupPlace, lookupBegin, lookupLength}
+use Rattle.rules.proofs.Refusals.{when-passed, when-yes, when-no, then-passed, then-both, gives-refused}
 use Rattle.rules.proofs.Accepted.{accepted}
-use Rattle.table.specs.Search.{findBelow}
-use Rattle.table.proofs.Finds.{find-below}
+use Rattle.search.specs.Search.{findBelow}
+use Rattle.search.proofs.Finds.{find-below}
 
 module _ (n : ℕ) (t : List ℕ) (x : Name) where
-  -- the table is refused
-  module _ (r : Refusal) (e : check first n t ≡ Refused r) where
+  -- the table passes, and the search answers p
+  module _ (e : check first n t ≡ passed) (k p : ℕ) (is-k : k ≡ records first t) (f : p ≡ findBelow t (min k (records first t)) x) where
+    is-found : p ≡ find (vertices first t) x
+    is-found = let q : min k (records first t) ≡ records first t = omega arith in f ∙ rw q (find-below n t x (accepted first n t e))
+
+    pub place-found : p < k → gives p ≡ lookupPlace first n t x
+    unfolding lookupPlace lookupCheck
+    place-found l = sym (then-passed _ _ (then-passed _ _ e ∙ when-no _ _ (rw (← is-found, ← is-k) (lt-leb _ _ l))) ∙ rw (← is-found))
+
+    pub place-none : k ≤ p → refusal 11 0 ≡ lookupPlace first n t x
+    unfolding lookupPlace lookupCheck _then_
+    place-none l = rw (e, ← is-found, ← is-k, when-yes (refusal 11 0) _ (le-leb k p l))
+
+  -- the record stands at p
+  module _ (p : ℕ) (e : gives p ≡ lookupPlace first n t x) where
+    both : (lookupCheck first n t x ≡ passed) × (gives (find (vertices first t) x) ≡ gives p)
+    unfolding lookupPlace
+    both = then-both _ _ (sym e)
+
+    pub stands : lookupCheck first n t x ≡ passed
+    stands = both .0
+
+    at-p : find (vertices first t) x ≡ p
+    at-p = let q = both .1 in cc
+
+    pub within : p < records first t
+    unfolding lookupCheck
+    within = rw at-p at (leb-false (records first t) (find (vertices first t) x) (when-passed _ _ _ (then-both _ _ stands .1)))
+
+    pub begin-found : lookupBegin first n t x ≡ 138 * p
+    unfolding lookupBegin
+    begin-found = rw (stands, at-p)
+
+    pub length-found : lookupLength first n t x ≡ 138
+    unfolding lookupLength
+    length-found = rw stands
+
+  -- it stands nowhere
+  module _ (k : ℕ) (values : List ℕ) (e : refused k values ≡ lookupPlace first n t x) where
+    pub nowhere : lookupCheck first n t x ≡ refused k values
+    unfolding lookupPlace
+    nowhere = gives-refused _ _ (sym e)
+
     pub begin-refused : lookupBegin first n t x ≡ 0
-    unfolding lookupBegin lookupCheck _then_
-    begin-refused = rw e
+    unfolding lookupBegin
+    begin-refused = rw nowhere
 
     pub length-refused : lookupLength first n t x ≡ 0
-    unfolding lookupLength lookupCheck _then_
-    length-refused = rw e
-
-    pub answer-refused : lookupAnswer first n t x ≡ answer.Refused r
-    unfolding lookupAnswer lookupCheck _then_
-    answer-refused = rw e
-
-  -- it passes, and the search finds p
-  module _ (e : check first n t ≡ Passed) (p : ℕ) (f : p ≡ findBelow t (min (records first t) (records first t)) x) where
-    is-found : p ≡ find (vertices first t) x
-    is-found = let q : min (records first t) (records first t) ≡ records first t = omega arith in f ∙ rw q (find-below n t x (accepted first n t e))
-
-    module _ (l : p < records first t) where
-      pub begin-found : lookupBegin first n t x ≡ 138 * p
-      unfolding lookupBegin lookupCheck _then_ _when_
-      begin-found = rw (e, ← is-found, lt-leb (length t / 138) p l)
-
-      pub length-found : lookupLength first n t x ≡ 138
-      unfolding lookupLength lookupCheck _then_ _when_
-      length-found = rw (e, ← is-found, lt-leb (length t / 138) p l)
-
-      pub answer-found : lookupAnswer first n t x ≡ answer.Found
-      unfolding lookupAnswer lookupCheck _then_ _when_
-      answer-found = rw (e, ← is-found, lt-leb (length t / 138) p l)
-
-    module _ (l : records first t ≤ p) where
-      pub begin-none : lookupBegin first n t x ≡ 0
-      unfolding lookupBegin lookupCheck _then_ _when_
-      begin-none = rw (e, ← is-found, le-leb (length t / 138) p l)
-
-      pub length-none : lookupLength first n t x ≡ 0
-      unfolding lookupLength lookupCheck _then_ _when_
-      length-none = rw (e, ← is-found, le-leb (length t / 138) p l)
-
-      pub answer-none : lookupAnswer first n t x ≡ answer.Refused Unnamed
-      unfolding lookupAnswer lookupCheck _then_ _when_
-      answer-none = rw (e, ← is-found, le-leb (length t / 138) p l)
+    unfolding lookupLength
+    length-refused = rw nowhere

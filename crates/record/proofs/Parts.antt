@@ -1,13 +1,15 @@
 -- The bytes that the code lends of a table are those of the record at a position.
 -- Assumes nothing.
-use Prim.Native.Nat.{ℕ, _+_, _-_, _*_, _/_, _≤_, _<_}
+use Prim.Native.Nat.{ℕ, _+_, _-_, _*_, _≤_, _<_, min}
 use mathlib.Core.Path.{_≡_, sym, _∙_}
 use mathlib.Core.List.{List}
 use native.Mathlib.Nat.{le-refl}
 use native.Mathlib.Omega.{arith}
 use lib.ListN.{length, take, drop, length-drop, drop-of-length-le}
 use lib.Seq.{take-all}
-use Rattle.rules.specs.Record.{first, recordAt}
+use denote.Ref.{RefT, now}
+use Rattle.rules.specs.Record.{first, recordAt, records}
+use Rattle.record.specs.Part.{PartOf, RecordPart}
 
 -- of a whole record, as many as it has
 pub own-bytes : (t : List ℕ) (p : ℕ) → take (138 * p + 138 - 138 * p) (drop (138 * p) t) ≡ recordAt first t p
@@ -27,3 +29,10 @@ no-bytes t p h =
     let none : drop (length t) t ≡ drop (138 * p) t = drop-of-length-le t (le-refl (length t)) ∙ sym (drop-of-length-le t h) in
     let zero : length t - length t ≡ length t - 138 * p = omega arith in
     rw (zero, none) (left-bytes t p (omega arith))
+
+-- the part of a whole record, by its place and its length
+pub whole-part : (t r : RefT (List ℕ)) (p : ℕ) → RecordPart first t p r → p < records first (now t) → PartOf t r (138 * p) 138
+unfolding recordAt
+whole-part t r p R l =
+    let begin : min (138 * p) (length (now t)) ≡ 138 * p = omega arith in
+    record { block = R .block; place = rw begin at (R .place); bytes = R .bytes }

@@ -1,11 +1,11 @@
 -- Which line stands where, by the tests that the code makes.
 -- Assumes nothing.
-use Prim.Native.Nat.{ℕ, zero, suc, _+_, _-_, _*_, _≤_, _<_}
-use mathlib.Core.Path.{_≡_, refl, _∙_}
+use Prim.Native.Nat.{ℕ, zero, suc, _-_, _≤_, _<_}
+use mathlib.Core.Path.{_≡_, refl, sym, _∙_}
 use mathlib.Core.Logic.{_≢_}
 use mathlib.Core.List.{List, []}
 use native.Mathlib.Omega.{arith}
-use lib.ListN.{length, getD, take, drop, List·getD-eq-default}
+use lib.ListN.{getD, List·getD-eq-default}
 use borrow.Author.Tests.{lt-ltb, le-ltb}
 use Rattle.rules.specs.declared.Name.{Name}
 use Rattle.rules.specs.declared.Vertex.{Vertex}
@@ -13,40 +13,36 @@ use Rattle.rules.specs.declared.Refusal.{Refusal}
 use Rattle.rules.specs.declared.Counts.{Counts}
 use Rattle.rules.specs.declared.Outcome.{Outcome}
 use Rattle.rules.specs.declared.Outcome.the-variants.{Settled, Refused}
-use Rattle.rules.specs.Record.{first, recordAt, decode, records, vertices, at, noVertex, nameOf}
+use Rattle.rules.specs.Record.{first, records, vertices, at, noVertex, nameOf}
+use Rattle.rules.specs.Refusals.{rowOf, outcomeTells}
+use Rattle.rules.specs.Decision.{said}
 use Rattle.rules.specs.Program.{lineX, lineS, lineR}
-use Rattle.rules.proofs.Records.{vertices-length, vertices-at}
+use Rattle.rules.proofs.Records.{vertices-length}
+use Rattle.search.specs.Search.{nameAt}
+use Rattle.search.proofs.Names.{name-at}
 use Rattle.lines.specs.Fills.{Fills}
 use Rattle.lines.specs.Lines.{lineUndecided, lineSkipped, lineCommitted, lineNamed}
 use Rattle.lines.proofs.Lines.{undecided-line, skipped-line, committed-line, named-line}
 use Rattle.lines.proofs.Text.{fills-so}
-use Rattle.report.specs.Output.{decisionOf, laterLine, settledLine, outputLine}
+use Rattle.report.specs.Output.{laterLine, settledLine, outputLine}
 
 -- ---- the name at a position
 
-own-bytes : (b : List ℕ) (p : ℕ) → take (138 * p + 138 - 138 * p) b ≡ take 138 b
-own-bytes b p = let e : 138 * p + 138 - 138 * p ≡ 138 = omega arith in rw e
+pub name-within : (t : List ℕ) (p k : ℕ) (x : Name) → k ≡ records first t → p < k → x ≡ nameAt t p → x ≡ nameOf (at (vertices first t) p)
+name-within t p k x is h e = e ∙ sym (name-at t p (omega arith))
 
--- the bytes that the code lends are the record's
-pub name-within : (t : List ℕ) (p : ℕ) (x : Name) → p < records first t → x ≡ nameOf (decode first (take (138 * p + 138 - 138 * p) (drop (138 * p) t))) → x ≡ nameOf (at (vertices first t) p)
-unfolding recordAt
-name-within t p x h e = e ∙ rw (own-bytes (drop (138 * p) t) p, vertices-at first t p h)
-
-pub name-past : (t : List ℕ) (p : ℕ) → records first t ≤ p → nameOf noVertex ≡ nameOf (at (vertices first t) p)
-name-past t p h = rw (List·getD-eq-default (vertices first t) noVertex {n = p} (rw vertices-length h))
+pub name-past : (t : List ℕ) (p k : ℕ) → k ≡ records first t → k ≤ p → nameOf noVertex ≡ nameOf (at (vertices first t) p)
+name-past t p k is h = rw (List·getD-eq-default (vertices first t) noVertex {n = p} (rw vertices-length (omega arith)))
 
 -- ---- the line of a round
 
-pub round-undecided : (vs : List Vertex) (r cell : ℕ) → cell ≡ 0 → lineUndecided r ≡ lineR vs r (decisionOf cell)
-unfolding decisionOf
+pub round-undecided : (vs : List Vertex) (r cell : ℕ) → cell ≡ 0 → lineUndecided r ≡ lineR vs r (said cell)
 round-undecided vs r cell e = rw e (undecided-line vs r)
 
-pub round-skipped : (vs : List Vertex) (r cell : ℕ) → cell ≡ 1 → lineSkipped r ≡ lineR vs r (decisionOf cell)
-unfolding decisionOf
+pub round-skipped : (vs : List Vertex) (r cell : ℕ) → cell ≡ 1 → lineSkipped r ≡ lineR vs r (said cell)
 round-skipped vs r cell e = rw e (skipped-line vs r)
 
-pub round-committed : (vs : List Vertex) (r cell : ℕ) (x : Name) → cell ≢ 0 → cell ≢ 1 → x ≡ nameOf (at vs (cell - 2)) → lineCommitted r (x .author) (x .mark) ≡ lineR vs r (decisionOf cell)
-unfolding decisionOf
+pub round-committed : (vs : List Vertex) (r cell : ℕ) (x : Name) → cell ≢ 0 → cell ≢ 1 → x ≡ nameOf (at vs (cell - 2)) → lineCommitted r (x .author) (x .mark) ≡ lineR vs r (said cell)
 round-committed vs r zero x a b e = absurd (a refl)
 round-committed vs r (suc zero) x a b e = absurd (b refl)
 round-committed vs r (suc (suc p)) x a b e = let d : suc (suc p) - 2 ≡ p = omega arith in rw (e, d) (committed-line vs r p)
@@ -58,7 +54,7 @@ module _ (c : Counts) (t cells order : List ℕ) where
   unfolding settledLine
   settled-first i e = rw e
 
-  pub settled-round : (i k : ℕ) → i ≢ 0 → i - 1 < c .highest → k ≡ getD cells (i - 1) 0 → lineR (vertices first t) i (decisionOf k) ≡ settledLine c t cells order i
+  pub settled-round : (i k : ℕ) → i ≢ 0 → i - 1 < c .highest → k ≡ getD cells (i - 1) 0 → lineR (vertices first t) i (said k) ≡ settledLine c t cells order i
   unfolding settledLine laterLine
   settled-round zero k z h e = absurd (z refl)
   settled-round (suc j) k z h e = let d : suc j - 1 ≡ j = omega arith in rw (e, d, lt-ltb j (c .highest) (omega arith))
@@ -78,15 +74,15 @@ module _ (c : Counts) (t cells order : List ℕ) where
 -- ---- a line of an outcome
 
 module _ (o : Outcome) (t cells order : List ℕ) where
-  pub output-settled : (c : Counts) (i : ℕ) → o ≡ Settled c → settledLine c t cells order i ≡ outputLine o t cells order i
+  pub output-settled : (c : Counts) (i : ℕ) → o ≡ Settled c → settledLine c t cells order i ≡ outputLine (outcomeTells o) t cells order i
   unfolding outputLine
   output-settled c i e = rw e
 
-  pub output-refused : (r : Refusal) (i : ℕ) → o ≡ Refused r → i ≡ 0 → lineX r ≡ outputLine o t cells order i
+  pub output-refused : (r : Refusal) (i : ℕ) → o ≡ Refused r → i ≡ 0 → lineX (rowOf r .number) (rowOf r .values) ≡ outputLine (outcomeTells o) t cells order i
   unfolding outputLine
   output-refused r i e z = rw (e, z)
 
-  pub output-past : (r : Refusal) (i : ℕ) → o ≡ Refused r → i ≢ 0 → [] ≡ outputLine o t cells order i
+  pub output-past : (r : Refusal) (i : ℕ) → o ≡ Refused r → i ≢ 0 → [] ≡ outputLine (outcomeTells o) t cells order i
   unfolding outputLine
   output-past r zero e z = absurd (z refl)
   output-past r (suc k) e z = rw e

@@ -4,21 +4,20 @@ use Prim.Native.Nat.{ℕ, zero, suc, _+_, _-_, _<_}
 use mathlib.Core.Path.{_≡_, refl, sym, ap, _∙_}
 use mathlib.Core.List.{List, [], _∷_, _++_, append-assoc, append-nil, map}
 use native.Mathlib.Omega.{arith}
-use lib.ListN.{length, getD, drop, length-map, List·getD-append, List·getD-map}
+use lib.ListN.{length, getD}
 use borrow.Author.Tests.{lt-ltb, le-ltb}
 use Rattle.rules.specs.declared.Vertex.{Vertex}
 use Rattle.rules.specs.declared.Counts.{Counts}
-use Rattle.rules.specs.declared.Outcome.the-variants.{Settled}
-use Rattle.rules.specs.declared.Checked.{Checked}
-use Rattle.rules.specs.declared.Checked.the-variants.{Passed, Refused}
+use Rattle.rules.specs.Refusals.{Told, gives, refused}
 use Rattle.rules.specs.Record.{first, vertices, at}
-use Rattle.rules.specs.Decision.{Decision, undecided, skipped, committed, cell}
+use Rattle.rules.specs.Decision.{Decision, cell, said}
 use Rattle.rules.specs.Decide.{boxSetting, highest, decisions, decisionAt}
 use Rattle.rules.specs.Order.{writeFrom}
 use Rattle.rules.specs.Settlement.{Buffers, writtenOver, countsOf, settled, settleIf}
 use Rattle.rules.specs.Program.{lineS, lineR, lineV, linesR, linesV, lines}
+use Rattle.rules.proofs.Cells.{cell-at, place-at}
 use Rattle.rules.proofs.Decide.{decisions-length}
-use Rattle.report.specs.Output.{decisionOf, laterLine, settledLine, outputLine, outputLines, joined, output}
+use Rattle.report.specs.Output.{laterLine, settledLine, outputLine, outputLines, joined, output}
 
 -- ---- lines one after the other
 
@@ -63,23 +62,10 @@ unfolding linesV joined
 written-joined vs [] = refl
 written-joined vs (p ∷ ps) = rw (written-joined vs ps) (sym (joined-front (λ k. lineV (at vs (getD (p ∷ ps) k 0))) (length ps)))
 
--- a cell holds its decision
-cell-back : (d : Decision ℕ) → decisionOf (cell d) ≡ d
-unfolding decisionOf
-cell-back undecided = refl
-cell-back skipped = refl
-cell-back (committed p) = let e : 2 + p ≡ suc (suc p) = omega arith in rw e
-
-cell-at : (ds : List (Decision ℕ)) (old : List ℕ) (k : ℕ) → k < length ds → decisionOf (getD (writtenOver (map cell ds) old) k 0) ≡ decisionAt ds k
-cell-at ds old k h = rw (List·getD-append (map cell ds) (drop (length (map cell ds)) old) 0 k (simp length-map h), List·getD-map cell ds k undecided) (cell-back (decisionAt ds k))
-
-place-at : (ps old : List ℕ) (k : ℕ) → k < length ps → getD (writtenOver ps old) k 0 ≡ getD ps k 0
-place-at ps old k h = List·getD-append ps (drop (length ps) old) 0 k h
-
 -- ---- the whole output
 
 module _ (c : Counts) (t cells order : List ℕ) (ds : List (Decision ℕ)) (ps : List ℕ) (rounds : length ds ≡ c .highest) (places : length ps ≡ c .written)
-    (decided : (k : ℕ) → k < length ds → decisionOf (getD cells k 0) ≡ decisionAt ds k) (written : (k : ℕ) → k < length ps → getD order k 0 ≡ getD ps k 0) where
+    (decided : (k : ℕ) → k < length ds → said (getD cells k 0) ≡ decisionAt ds k) (written : (k : ℕ) → k < length ps → getD order k 0 ≡ getD ps k 0) where
   abbrev vs : List Vertex
   vs = vertices first t
 
@@ -97,21 +83,21 @@ module _ (c : Counts) (t cells order : List ℕ) (ds : List (Decision ℕ)) (ps 
       ∙ sym (written-joined vs ps)
 
   -- the counts, the rounds, the written vertices
-  pub output-settled : output (Settled c) t cells order ≡ lineS c ++ linesR vs 1 ds ++ linesV vs ps
+  pub output-settled : output (gives c) t cells order ≡ lineS c ++ linesR vs 1 ds ++ linesV vs ps
   unfolding output outputLines outputLine settledLine
   output-settled =
       let e : 1 + c .highest + c .written ≡ suc (length ds + length ps) = omega arith in
       let later : joined (laterLine c vs cells order) (length ds + length ps) ≡ linesR vs 1 ds ++ linesV vs ps =
       joined-more (laterLine c vs cells order) (length ds) (length ps) ∙ rw (later-rounds, later-written) in
-      rw e (joined-front (outputLine (Settled c) t cells order) (length ds + length ps) ∙ ap (λ x. lineS c ++ x) later ∙ sym (append-assoc (lineS c) (linesR vs 1 ds) (linesV vs ps)))
+      rw e (joined-front (outputLine (gives c) t cells order) (length ds + length ps) ∙ ap (λ x. lineS c ++ x) later ∙ sym (append-assoc (lineS c) (linesR vs 1 ds) (linesV vs ps)))
 
 -- What a settlement gives and leaves, printed line by line, is what the program prints where the same check refuses or passes.
-pub output-is : (k : Checked) (n : ℕ) (t : List ℕ) (b : Buffers)
+pub output-is : (k : Told (Unit {0})) (n : ℕ) (t : List ℕ) (b : Buffers)
     → output (settleIf k (boxSetting n) n (vertices first t) b .outcome) t (settleIf k (boxSetting n) n (vertices first t) b .buffers .cells) (settleIf k (boxSetting n) n (vertices first t) b .buffers .order)
     ≡ lines k (boxSetting n) n (vertices first t)
 unfolding settleIf settled countsOf lines output outputLine outputLines joined
-output-is (Refused r) n t b = refl
-output-is Passed n t b =
+output-is (refused r values) n t b = refl
+output-is (gives a) n t b =
     let ds = decisions (boxSetting n) n (vertices first t) in
     let ps = writeFrom (boxSetting n .step) (vertices first t) [] ds in
     output-settled (countsOf n (vertices first t) ds ps) t (writtenOver (map cell ds) (b .cells)) (writtenOver ps (b .order)) ds ps

@@ -3,16 +3,17 @@ ghost use mathlib.Core.Path.{_≡_};
 ghost use Prim.Native.Nat.{_+_, min};
 ghost use lib.ListN.{getD};
 ghost use Rattle.rules.specs.Record.{first, vertices, at, nameOf};
+ghost use Rattle.rules.specs.Refusals.{outcomeTells};
+ghost use Rattle.rules.specs.Decision.{said};
 ghost use Rattle.rules.specs.Program.{lineR};
 ghost use Rattle.lines.specs.Fills.{Fills};
-ghost use Rattle.report.specs.Output.{decisionOf, settledLine, outputLine, outputLines};
+ghost use Rattle.report.specs.Output.{settledLine, outputLine, outputLines};
 use lines::line_committed;
 use lines::line_refused;
 use lines::line_settled;
 use lines::line_skipped;
 use lines::line_undecided;
 use lines::line_vertex;
-use record::RECORD;
 use rules::Counts;
 use rules::Name;
 use rules::Outcome;
@@ -35,8 +36,8 @@ fn number_at(s: &[u32], i: usize) -> u32
 fn name_at(table: &[u8], p: usize) -> Name
     ensures { λ r. ⌜ r ≡ nameOf (at (vertices first (now (table .entry))) p) ⌝ }
 {
-    if p < table.len() / RECORD {
-        return record::name_of(&table[RECORD * p..RECORD * p + RECORD]);
+    if p < record::records_of(table) {
+        return search::name_at(table, p);
     }
     Name {
         round: 0,
@@ -47,7 +48,7 @@ fn name_at(table: &[u8], p: usize) -> Name
 
 // The line of a round, by its cell.
 fn round_line(table: &[u8], round: u32, cell: u32, out: &mut [u8]) -> usize
-    ensures { λ k. ⌜ Fills (lineR (vertices first (now (table .entry))) round (decisionOf cell)) (now (out .entry)) (now (out .exit)) k ⌝ }
+    ensures { λ k. ⌜ Fills (lineR (vertices first (now (table .entry))) round (said cell)) (now (out .entry)) (now (out .exit)) k ⌝ }
 {
     if cell == 0 {
         return line_undecided(round, out);
@@ -93,7 +94,7 @@ pub fn output_line(
     i: usize,
     out: &mut [u8],
 ) -> usize
-    ensures { λ k. ⌜ Fills (outputLine (s .outcome) (now (table .entry)) (now (cells .entry)) (now (order .entry)) i) (now (out .entry)) (now (out .exit)) k ⌝ }
+    ensures { λ k. ⌜ Fills (outputLine (outcomeTells (s .outcome)) (now (table .entry)) (now (cells .entry)) (now (order .entry)) i) (now (out .entry)) (now (out .exit)) k ⌝ }
 {
     let o = s.outcome;
     match o {
@@ -119,7 +120,7 @@ fn settled_lines(c: Counts) -> usize
 
 // How many lines there are. A sum that does not fit is told as the largest number.
 pub fn output_lines(s: Settlement) -> usize
-    ensures { λ r. ⌜ r ≡ min (outputLines (s .outcome)) 18446744073709551615 ⌝ }
+    ensures { λ r. ⌜ r ≡ min (outputLines (outcomeTells (s .outcome))) 18446744073709551615 ⌝ }
 {
     let o = s.outcome;
     match o {

@@ -7,5 +7,6 @@ pub mod History
 pub mod Decisions
 pub mod Decide
 pub mod Highest
+pub mod Cells
 pub mod Examples
 pub mod Only

@@ -62,6 +62,12 @@ module _ {A : Type 0} where
   then-both (gives tt) d e = (refl, e)
   then-both (refused k vs) d e = absurd (refused-gives refl e)
 
+-- a refusal of a check after which something is given is the check's
+pub gives-refused : {A : Type 0} {k : ℕ} {vs : List ℕ} (c : Told (Unit {0})) (a : A) → c then gives a ≡ refused k vs → c ≡ refused k vs
+unfolding _then_
+gives-refused (gives tt) a e = absurd (refused-gives e refl)
+gives-refused (refused j ws) a e = cc
+
 -- what follows a check matters only where that is passed
 pub then-same : {A : Type 0} (c : Told (Unit {0})) (d d′ : Told A) → (c ≡ passed → d ≡ d′) → c then d ≡ c then d′
 unfolding _then_
@@ -150,11 +156,26 @@ rowed Lent = refl
 rowed Unnamed = refl
 rowed Input = refl
 
+-- each refusal tells one value, the position
+pub one-value : (r : Refusal) → rowOf r .values ≡ getD (rowOf r .values) 0 0 ∷ []
+one-value Authors = refl
+one-value Length = refl
+one-value Records = refl
+one-value (Sum p) = refl
+one-value (Fields p) = refl
+one-value (Rising p) = refl
+one-value (Entries p) = refl
+one-value (Earlier p) = refl
+one-value (Round p) = refl
+one-value Lent = refl
+one-value Unnamed = refl
+one-value Input = refl
+
 pub refusal-unique : {A : Type 0} (r s : Refusal) → _≡_ {A = Told A} (refusalTells r) (refusalTells s) → r ≡ s
 refusal-unique r s e = sym (rowed r) ∙ ap (λ c. unnumber (numberOf c) (positionOf c)) e ∙ rowed s
 
 -- something that is given is no refusal
-gives-refusal : {A : Type 0} (a : A) (r : Refusal) → gives a ≡ refusalTells r → ⊥
+pub gives-refusal : {A : Type 0} (a : A) (r : Refusal) → gives a ≡ refusalTells r → ⊥
 gives-refusal a r e = refused-gives refl (sym e)
 
 pub check-unique : (c d : Checked) → checkTells c ≡ checkTells d → c ≡ d

@@ -1,6 +1,6 @@
 -- Document 01, "Support, certificates, decisions": what is decided of a slot. A committed one has a vertex, by its position or by its name.
 -- Assumes nothing.
-use Prim.Native.Nat.{ℕ, _+_}
+use Prim.Native.Nat.{ℕ, zero, suc, _+_}
 use mathlib.Core.Path.{_≡_}
 
 pub data Decision (A : Type 0) : Type 0 where
@@ -22,3 +22,9 @@ abbrev pub cell : Decision ℕ → ℕ
 cell undecided = 0
 cell skipped = 1
 cell (committed p) = 2 + p
+
+-- What a cell says.
+abbrev pub said : ℕ → Decision ℕ
+said zero = undecided
+said (suc zero) = skipped
+said (suc (suc p)) = committed p

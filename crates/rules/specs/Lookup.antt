@@ -12,6 +12,10 @@ use Rattle.rules.specs.Check.{check}
 unfoldable pub lookupCheck : Edition → ℕ → List ℕ → Name → Told (Unit {0})
 lookupCheck E n t x = check E n t then refusal 11 0 when leb (records E t) (find (vertices E t) x)
 
+-- Where the record of the name stands, or why it stands nowhere.
+unfoldable pub lookupPlace : Edition → ℕ → List ℕ → Name → Told ℕ
+lookupPlace E n t x = lookupCheck E n t x then gives (find (vertices E t) x)
+
 -- Where the part begins and how long it is: the record's own bytes, or the first zero bytes of the table.
 abbrev pub ifPassed : Told (Unit {0}) → ℕ → ℕ
 ifPassed (gives a) k = k

@@ -4,7 +4,8 @@
 use Prim.Native.Nat.{ℕ}
 use mathlib.Core.Path.{_≡_, sym, _∙_}
 use mathlib.Core.List.{List}
-use Rattle.rules.specs.Settlement.{Buffers}
+use denote.Ref.{now}
+use Rattle.rules.specs.Settlement.{Buffers, lent}
 use Rattle.rules.proofs.Only.{Only}
 use Rattle.exports.specs.declared.SettledNumbers.{SettledNumbers}
 use Rattle.exports.specs.Answers.{SettlesAs}
@@ -26,11 +27,11 @@ lookup-unique κs a x y e f p q = p ∙ sym q
 pub lookup-answer-unique : Only 1 lookup-answer-kinds.ps lookup-answer-kinds.r (λ κs x e y f. x ≡ y) lookup-answer.Post
 lookup-answer-unique κs a x y e f p q = p ∙ sym q
 
--- the numbers of a settlement, whatever is held at the end
-pub settle-unique : Only 4 settle-kinds.ps settle-kinds.r (λ κs x e y f. x ≡ y) settle.Post
-settle-unique κs a x y e f p q = p .numbers ∙ sym (q .numbers)
+-- the numbers of a settlement, and with them the cells, the order places and the taken bytes
+settles-once : {n : ℕ} {t : List ℕ} {before after other : Buffers} {x y : SettledNumbers} → SettlesAs n t before x after → SettlesAs n t before y other → (x ≡ y) × (after ≡ other)
+settles-once p q = (p .numbers ∙ sym (q .numbers), λ i. record { cells = (p .cells ∙ sym (q .cells)) i; order = (p .order ∙ sym (q .order)) i; taken = (p .taken ∙ sym (q .taken)) i })
 
--- and with them the cells, the order places and the taken bytes
-module _ (n : ℕ) (t : List ℕ) (before : Buffers) (x y : SettledNumbers) (after other : Buffers) (p : SettlesAs n t before x after) (q : SettlesAs n t before y other) where
-  pub settled-unique : (x ≡ y) × (after ≡ other)
-  settled-unique = (p .numbers ∙ sym (q .numbers), λ i. record { cells = (p .cells ∙ sym (q .cells)) i; order = (p .order ∙ sym (q .order)) i; taken = (p .taken ∙ sym (q .taken)) i })
+pub settle-unique : Only 4 settle-kinds.ps settle-kinds.r
+    (λ κs x e y f. (x ≡ y) × (lent (now (e .1 .1 .0)) (now (e .1 .1 .1 .0)) (now (e .1 .1 .1 .1 .0)) ≡ lent (now (f .1 .1 .0)) (now (f .1 .1 .1 .0)) (now (f .1 .1 .1 .1 .0))))
+    settle.Post
+settle-unique κs a x y e f p q = settles-once p q

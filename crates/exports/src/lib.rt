@@ -1,12 +1,14 @@
 // What C and Rust call: thin functions over the calls of the library, each equal to its call on all inputs. C has no enum whose
 // cases carry values, so an answer goes out as document 01's number and position. include/record_box.h has the declarations.
 ghost use mathlib.Core.Path.{_≡_};
-ghost use Rattle.rules.specs.Record.{first};
+ghost use Rattle.rules.specs.declared.Checked.the-variants as Checked;
+ghost use Rattle.rules.specs.Refusals.{checkTells, lookupTells, outcomeTells};
+ghost use Rattle.rules.specs.Record.{first, named};
 ghost use Rattle.rules.specs.Check.{check as checked};
-ghost use Rattle.rules.specs.Lookup.{lookupAnswer};
-ghost use Rattle.rules.specs.Record.{named};
+ghost use Rattle.rules.specs.Lookup.{lookupCheck};
 ghost use Rattle.rules.specs.Settlement.{lent};
-ghost use Rattle.exports.specs.Answers.{refusalAs, checkedAs, lookupAs, partAs, settledAs, SettlesAs};
+ghost use Rattle.exports.specs.Answers.{answerAs, partAs, settledAs, SettlesAs};
+use lookup::Standing;
 use record::RECORD;
 use rules::Checked;
 use rules::LookupAnswer;
@@ -43,16 +45,17 @@ pub struct SettledNumbers {
 // ---- answers as numbers
 
 fn refusal_as(why: Refusal) -> Answer
-    ensures { λ r. ⌜ r ≡ refusalAs why ⌝ }
+    ensures { λ r. ⌜ r ≡ answerAs (checkTells (Checked.Refused why)) ⌝ }
 {
+    let x = refusals::number_of(why);
     Answer {
-        number: refusals::number_of(why),
-        position: refusals::position_of(why),
+        number: x.number,
+        position: x.position,
     }
 }
 
 fn checked_as(c: Checked) -> Answer
-    ensures { λ r. ⌜ r ≡ checkedAs c ⌝ }
+    ensures { λ r. ⌜ r ≡ answerAs (checkTells c) ⌝ }
 {
     match c {
         Checked::Passed => Answer {
@@ -64,7 +67,7 @@ fn checked_as(c: Checked) -> Answer
 }
 
 fn lookup_as(a: LookupAnswer) -> Answer
-    ensures { λ r. ⌜ r ≡ lookupAs a ⌝ }
+    ensures { λ r. ⌜ r ≡ answerAs (lookupTells a) ⌝ }
 {
     match a {
         LookupAnswer::Found => Answer {
@@ -76,7 +79,7 @@ fn lookup_as(a: LookupAnswer) -> Answer
 }
 
 fn settled_as(o: Outcome) -> SettledNumbers
-    ensures { λ r. ⌜ r ≡ settledAs o ⌝ }
+    ensures { λ r. ⌜ r ≡ settledAs (outcomeTells o) ⌝ }
 {
     match o {
         Outcome::Settled(c) => SettledNumbers {
@@ -88,15 +91,18 @@ fn settled_as(o: Outcome) -> SettledNumbers
             written: c.written,
             equivocators: c.equivocators,
         },
-        Outcome::Refused(why) => SettledNumbers {
-            number: refusals::number_of(why),
-            position: refusals::position_of(why),
-            records: 0,
-            highest: 0,
-            undecided: 0,
-            written: 0,
-            equivocators: 0,
-        },
+        Outcome::Refused(why) => {
+            let x = refusals::number_of(why);
+            SettledNumbers {
+                number: x.number,
+                position: x.position,
+                records: 0,
+                highest: 0,
+                undecided: 0,
+                written: 0,
+                equivocators: 0,
+            }
+        }
     }
 }
 
@@ -105,7 +111,7 @@ fn settled_as(o: Outcome) -> SettledNumbers
 // `table::check`. Number 0: the table passes.
 #[no_mangle]
 pub extern "C" fn record_box_check(n: u8, table: &[u8]) -> Answer
-    ensures { λ r. ⌜ r ≡ checkedAs (checked first n (now (table .entry))) ⌝ }
+    ensures { λ r. ⌜ r ≡ answerAs (checked first n (now (table .entry))) ⌝ }
 {
     checked_as(table::check(n, table))
 }
@@ -116,35 +122,24 @@ pub extern "C" fn record_box_check(n: u8, table: &[u8]) -> Answer
 pub extern "C" fn record_box_lookup(n: u8, table: &[u8], round: u32, author: u8, mark: u32) -> Part
     ensures { λ r. ⌜ r ≡ partAs first n (now (table .entry)) (named round author mark) ⌝ }
 {
-    let k = table.len() / RECORD;
-    let c = table::check(n, table);
-    match c {
-        Checked::Passed => {}
-        Checked::Refused(_) => {
-            return Part {
-                begin: 0,
-                length: 0,
-            };
-        }
-    }
-    let p = table::find(
+    let s = lookup::stands_at(
+        n,
         table,
-        k,
         Name {
             round,
             author,
             mark,
         },
     );
-    if p < k {
-        return Part {
-            begin: RECORD * p,
+    match s {
+        Standing::At { position } => Part {
+            begin: RECORD * position,
             length: RECORD,
-        };
-    }
-    Part {
-        begin: 0,
-        length: 0,
+        },
+        Standing::Refused(_) => Part {
+            begin: 0,
+            length: 0,
+        },
     }
 }
 
@@ -157,7 +152,7 @@ pub extern "C" fn record_box_lookup_answer(
     author: u8,
     mark: u32,
 ) -> Answer
-    ensures { λ r. ⌜ r ≡ lookupAs (lookupAnswer first n (now (table .entry)) (named round author mark)) ⌝ }
+    ensures { λ r. ⌜ r ≡ answerAs (lookupCheck first n (now (table .entry)) (named round author mark)) ⌝ }
 {
     lookup_as(lookup::lookup_answer(n, table, round, author, mark))
 }

@@ -8,7 +8,7 @@ use borrow.Author.Tests.{lt-ltb, le-ltb}
 use Rattle.rules.specs.declared.Settlement.{Settlement}
 use Rattle.rules.specs.declared.Refusal.the-variants.{Input}
 use Rattle.rules.specs.declared.Outcome.the-variants.{Refused}
-use Rattle.rules.specs.Refusals.{_when_, _then_}
+use Rattle.rules.specs.Refusals.{refusal, outcomeTells, _when_, _then_}
 use Rattle.rules.specs.Record.{first}
 use Rattle.rules.specs.Decide.{boxSetting}
 use Rattle.rules.specs.Settlement.{Buffers, Settles, settleIf, settle}
@@ -17,7 +17,7 @@ use Rattle.settlement.specs.Promise.{SettlesTo}
 use Rattle.record_box.specs.Answer.{authorsIn, tableIn, checked, answered, Answers}
 
 -- 12 answers before all else, and no memory is touched
-long : (input : List ℕ) (b : Buffers) → holds < length input → answered input b ≡ record { outcome = Refused Input; buffers = b }
+long : (input : List ℕ) (b : Buffers) → holds < length input → answered input b ≡ record { outcome = refusal 12 0; buffers = b }
 unfolding answered checked settleIf _when_ _then_
 long input b h = rw (lt-ltb holds (length input) h)
 
@@ -29,7 +29,7 @@ fits input b h = rw (le-ltb holds (length input) h)
 pub answers-long : (input : List ℕ) (b : Buffers) (r : Settlement) → holds < length input → r .outcome ≡ Refused Input → Answers input b r b
 answers-long input b r h e =
     let a = long input b h in
-    record { outcome = rw a e; cells = rw a; order = rw a; taken = rw a }
+    record { outcome = rw (a, e); cells = rw a; order = rw a; taken = rw a }
 
 pub answers-fits : (input t : List ℕ) (n : ℕ) (b a : Buffers) (r : Settlement) → length input ≤ holds → n ≡ authorsIn input → t ≡ tableIn input → SettlesTo n t b r a → Answers input b r a
 answers-fits input t n b a r h x y s =

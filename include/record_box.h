@@ -2,16 +2,18 @@
  * The calls of the record box's middle layer for C and C++.
  *
  * Link with the static library that `rt staticlib exports` writes (target/staticlib/libexports.a, x86-64). Each call is
- * proved to give what the library's call of that name gives, for every author count, every length and every byte:
- * no call has a precondition beyond what C itself asks of a pointer.
+ * proved to give what the library's call of that name gives, for every author count, every length and every byte.
+ *
+ * Two preconditions, beside what C asks of any pointer with a length (that many elements stand behind it, they are the
+ * caller's for the whole call, and nobody else writes to them meanwhile)
+ *   1. No pointer is NULL, also where the length is 0.
+ *   2. No buffer that is written to (one that is not `const`) overlaps another buffer or the table.
  *
  * Buffers
  *   - A slice is two parameters, one after the other: a pointer to its first element, and how many elements it has.
- *   - The pointer is not NULL, also where the length is 0, and that many elements behind it are the caller's for the
- *     whole call. Nobody else writes to them meanwhile.
  *   - A call keeps no pointer after it returns, takes no memory from a heap and frees nothing: the caller owns
  *     every buffer before, during and after.
- *   - What is lent as `const` is only read. Two buffers of which one is not `const` must not overlap.
+ *   - What is lent as `const` is only read.
  *   - Calls share no state: they may run side by side on several threads, also on one table.
  *   - A call takes less than 4 KiB of stack (docs/PERFORMANCE.md has each measured), and does not call itself.
  */
@@ -25,9 +27,25 @@
 extern "C" {
 #endif
 
+/*
+ * The version of what stands here. It goes up by one when any of it changes. A header and a library of one version
+ * belong together: compile anew with each.
+ *   - A number is never used again for something else. What one number tells may be told by several later, and a number
+ *     may no longer be given.
+ *   - New numbers may come. Take a number that is not known as a refusal.
+ *   - What suffices for every table may change, as to fewer cells: lend by the constants below and not by figures of your own.
+ *   - Calls may come, and a struct may get more members.
+ */
+#define RECORD_BOX_VERSION 1
+
 /* A record's size in bytes, and the most records of a table: a table is at most 565,248 bytes. */
 #define RECORD_BOX_RECORD_BYTES 138
 #define RECORD_BOX_MOST_RECORDS 4096
+
+/* How many cells, order places and taken bytes suffice for every table: who lends that many is never refused with 10. */
+#define RECORD_BOX_ENOUGH_CELLS 1400
+#define RECORD_BOX_ENOUGH_ORDER 4096
+#define RECORD_BOX_ENOUGH_TAKEN 4096
 
 /*
  * What a call is refused for. The first failing check answers: 1 to 3 in that order, then 4 to 9 in order on each record
@@ -72,7 +90,7 @@ struct record_box_settled {
     uint32_t highest;    /* the highest round, 0 without records */
     uint32_t undecided;  /* the first undecided round; one above the highest if every round is decided */
     size_t written;      /* how many positions are written to order */
-    size_t equivocators; /* how many authors have two records in some one round */
+    size_t equivocators; /* how many authors have two records in some one round of this table: docs/GUIDE.md on its use */
 };
 
 /* Checks a table of table_length bytes (not records). Number 0 (passed) to 9. */
@@ -98,11 +116,9 @@ struct record_box_answer record_box_lookup_answer(uint8_t n, const uint8_t *tabl
  *           leader vertex at position p is committed
  *   order   as many as it has records: order[0] to order[written - 1] become the written positions, in order
  *   taken   as many as it has records: taken[p] becomes 1 if position p is written and else 0
- * and 1,400 cells, 4,096 order places and 4,096 taken bytes suffice for every table. What lies past these is kept as it was,
- * as are the order places from written on. What the buffers held before has no influence on the rest. On a refusal nothing
- * is changed in any of them.
- *
- * No buffer may overlap another or the table.
+ * and RECORD_BOX_ENOUGH_CELLS, RECORD_BOX_ENOUGH_ORDER and RECORD_BOX_ENOUGH_TAKEN suffice for every table. What lies past
+ * these is kept as it was, as are the order places from written on. What the buffers held before has no influence on the
+ * rest. On a refusal nothing is changed in any of them.
  */
 struct record_box_settled record_box_settle(uint8_t n, const uint8_t *table, size_t table_length, uint32_t *cells,
                                             size_t cells_length, uint32_t *order, size_t order_length, uint8_t *taken,

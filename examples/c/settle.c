@@ -16,14 +16,13 @@
 
 #include "record_box.h"
 
-#define CELLS 1400 /* no table that passes has a higher round */
 #define TABLE_BYTES ((size_t)RECORD_BOX_MOST_RECORDS * RECORD_BOX_RECORD_BYTES)
 
-/* What is lent to the calls. It is static, as on a board: too large for a stack, and no heap is needed. */
+/* What is lent to the calls, enough for every table. It is static, as on a board: too large for a stack, and no heap is needed. */
 static uint8_t input[1 + TABLE_BYTES];
-static uint32_t cells[CELLS];
-static uint32_t order[RECORD_BOX_MOST_RECORDS];
-static uint8_t taken[RECORD_BOX_MOST_RECORDS];
+static uint32_t cells[RECORD_BOX_ENOUGH_CELLS];
+static uint32_t order[RECORD_BOX_ENOUGH_ORDER];
+static uint8_t taken[RECORD_BOX_ENOUGH_TAKEN];
 
 struct table {
     uint8_t n;
@@ -115,8 +114,8 @@ static void print_round(const struct table *table, uint32_t round, uint32_t cell
 
 static int settle(const struct table *table) {
     struct record_box_settled settled =
-        record_box_settle(table->n, table->bytes, table->length, cells, CELLS, order, RECORD_BOX_MOST_RECORDS, taken,
-                          RECORD_BOX_MOST_RECORDS);
+        record_box_settle(table->n, table->bytes, table->length, cells, RECORD_BOX_ENOUGH_CELLS, order,
+                          RECORD_BOX_ENOUGH_ORDER, taken, RECORD_BOX_ENOUGH_TAKEN);
     if (settled.number != RECORD_BOX_NONE) {
         return refuse(settled.number, settled.position);
     }

@@ -11,14 +11,16 @@ use std::fs::File;
 use std::io::{self, Read};
 use std::process::ExitCode;
 
+// The constants of `include/record_box.h`: a record's size, the most records of a table, and what suffices to settle every table.
 const RECORD_BYTES: usize = 138;
 const MOST_RECORDS: usize = 4096;
-/// No table that passes has a higher round.
-const MOST_ROUNDS: usize = 1400;
+const ENOUGH_CELLS: usize = 1400;
+const ENOUGH_ORDER: usize = 4096;
+const ENOUGH_TAKEN: usize = 4096;
 
 /// The calls as `include/record_box.h` has them, each in a safe function.
 mod record_box {
-    use super::{MOST_RECORDS, MOST_ROUNDS};
+    use super::{ENOUGH_CELLS, ENOUGH_ORDER, ENOUGH_TAKEN};
 
     #[repr(C)]
     struct Answer {
@@ -97,9 +99,9 @@ mod record_box {
 
     /// What is lent to a settlement: enough for every table.
     pub struct Lent {
-        pub cells: [u32; MOST_ROUNDS],
-        pub order: [u32; MOST_RECORDS],
-        pub taken: [u8; MOST_RECORDS],
+        pub cells: [u32; ENOUGH_CELLS],
+        pub order: [u32; ENOUGH_ORDER],
+        pub taken: [u8; ENOUGH_TAKEN],
     }
 
     pub fn settle(n: u8, table: &[u8], lent: &mut Lent) -> Result<Counts, Refusal> {
@@ -293,9 +295,9 @@ fn answer(asked: &Question, input: &[u8], room: usize) -> Result<String, Refusal
         return record_box::lookup(n, table, name).map(|record| vertex_line(name_in(record)));
     }
     let mut lent = Box::new(Lent {
-        cells: [0; MOST_ROUNDS],
-        order: [0; MOST_RECORDS],
-        taken: [0; MOST_RECORDS],
+        cells: [0; ENOUGH_CELLS],
+        order: [0; ENOUGH_ORDER],
+        taken: [0; ENOUGH_TAKEN],
     });
     let counts = record_box::settle(n, table, &mut lent)?;
     Ok(settled_lines(table, &counts, &lent))

@@ -16,63 +16,18 @@ const MOST_RECORDS: usize = 4096;
 /// No table that passes has a higher round.
 const MOST_ROUNDS: usize = 1400;
 
-/// The calls as `include/record_box.h` has them, each in a safe function.
+/// The calls as `include/record_box.h` has them; not all are needed here.
+#[allow(dead_code)]
+#[path = "../../include/record_box.rs"]
+mod c;
+
+/// Those that are, each in a safe function.
 mod record_box {
     use super::{MOST_RECORDS, MOST_ROUNDS};
-
-    #[repr(C)]
-    struct Answer {
-        number: u32,
-        position: usize,
-    }
-
-    #[repr(C)]
-    struct Part {
-        begin: usize,
-        length: usize,
-    }
-
-    #[repr(C)]
-    struct Settled {
-        number: u32,
-        position: usize,
-        records: usize,
-        highest: u32,
-        undecided: u32,
-        written: usize,
-        equivocators: usize,
-    }
+    use crate::c::{record_box_lookup, record_box_lookup_answer, record_box_settle, Answer};
 
     #[link(name = "exports", kind = "static")]
-    extern "C" {
-        fn record_box_lookup(
-            n: u8,
-            table: *const u8,
-            table_length: usize,
-            round: u32,
-            author: u8,
-            mark: u32,
-        ) -> Part;
-        fn record_box_lookup_answer(
-            n: u8,
-            table: *const u8,
-            table_length: usize,
-            round: u32,
-            author: u8,
-            mark: u32,
-        ) -> Answer;
-        fn record_box_settle(
-            n: u8,
-            table: *const u8,
-            table_length: usize,
-            cells: *mut u32,
-            cells_length: usize,
-            order: *mut u32,
-            order_length: usize,
-            taken: *mut u8,
-            taken_length: usize,
-        ) -> Settled;
-    }
+    extern "C" {}
 
     #[derive(Clone, Copy)]
     pub struct Refusal {

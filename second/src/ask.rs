@@ -1,7 +1,9 @@
 //! Asks the rules of this package and other calls the same questions.
 
-use crate::answers::{Answer, Calls, Part, Settled, RULES};
-use crate::generate::{lent, question, Lent};
+use crate::answers::{Calls, RULES};
+use crate::generate::{lent, question};
+use crate::record_box::{Answer, Part, Settled};
+use crate::settle::Lent;
 use std::fmt::Debug;
 
 /// Everything that the calls are asked with.
@@ -66,8 +68,8 @@ fn ask_lookup(calls: &Calls, case: &Case) -> Vec<Asked> {
 /// last place, with what is to be kept.
 fn ask_settle(calls: &Calls, case: &Case) -> Vec<Asked> {
     let (mut mine, mut theirs) = (case.lent.clone(), case.lent.clone());
-    let expected = settle_in(&RULES, case, &mut mine);
-    let told = settle_in(calls, case, &mut theirs);
+    let expected = (RULES.settle)(case.n, &case.table, &mut mine);
+    let told = (calls.settle)(case.n, &case.table, &mut theirs);
     let buffers = Asked {
         call: "settle, buffers",
         word: buffers_in_word(&case.lent, &mine).to_string(),
@@ -75,11 +77,6 @@ fn ask_settle(calls: &Calls, case: &Case) -> Vec<Asked> {
     };
     let word = settled_in_word(expected, &case.lent);
     vec![asked("settle", word, expected, told), buffers]
-}
-
-fn settle_in(calls: &Calls, case: &Case, lent: &mut Lent) -> Settled {
-    let (cells, order, taken) = (&mut lent.cells, &mut lent.order, &mut lent.taken);
-    (calls.settle)(case.n, &case.table, cells, order, taken)
 }
 
 fn buffers_in_word(before: &Lent, after: &Lent) -> &'static str {

@@ -7,6 +7,7 @@ use crate::grow::{grow, one_certificate, view, Crowd, Marks, Plan};
 use crate::program::{PROGRAM_BYTES, PROGRAM_RECORDS};
 use crate::record::{decode, encode_mended, Vertex, MOST_RECORDS, RECORD_BYTES};
 use crate::rng::Rng;
+use crate::settle::Lent;
 
 /// What an input is made for.
 #[derive(Clone, Copy, Debug, PartialEq, Eq)]
@@ -466,14 +467,6 @@ pub fn honest(n: u8, records: usize) -> Vec<u8> {
     plan.most_records = records;
     let vertices = grow(&plan, &mut Rng::new(1));
     bytes_of(&vertices)
-}
-
-/// Lent memory for a settlement, with some contents.
-#[derive(Clone, Debug, PartialEq, Eq)]
-pub struct Lent {
-    pub cells: Vec<u32>,
-    pub order: Vec<u32>,
-    pub taken: Vec<u8>,
 }
 
 /// How many cells a settlement needs, and how many order places and taken bytes. Of a

@@ -53,7 +53,7 @@ fn shown_by(kind: Kind, seed: u64) -> BTreeSet<String> {
         }
     }
     let mut lent = lent(n, &bytes, seed);
-    let outcome = settle(n, &bytes, &mut lent.cells, &mut lent.order, &mut lent.taken);
+    let outcome = settle(n, &bytes, &mut lent);
     if let Outcome::Refused(refused) = outcome {
         shown.insert(refusal(refused.number));
     }

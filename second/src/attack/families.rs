@@ -5,10 +5,11 @@ use crate::ask::Case;
 use crate::authors::AUTHOR_COUNTS;
 use crate::damage::Record;
 use crate::examples::{all, p13_or_p14, p2, p7, p9, padded, supporting};
-use crate::generate::{needed, Lent};
+use crate::generate::needed;
 use crate::made::{vertex, Made};
 use crate::record::{encode_mended, mend, Vertex, RECORD_BYTES};
 use crate::rng::Rng;
+use crate::settle::Lent;
 
 // ---- damage
 

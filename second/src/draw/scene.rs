@@ -5,7 +5,7 @@ use crate::authors::{f_of, is_author_count, leader};
 use crate::check::Refusal;
 use crate::decide::{decide_all, Way};
 use crate::record::{decode, Name, Vertex, RECORD_BYTES};
-use crate::settle::{settle, Counts, Outcome};
+use crate::settle::{settle, Counts, Lent, Outcome};
 use crate::table::Table;
 use crate::text::Text;
 use std::collections::BTreeMap;
@@ -42,15 +42,13 @@ impl Scene {
     pub fn of(text: &Text) -> Scene {
         let vertices: Vec<Vertex> = text.table.chunks(RECORD_BYTES).map(decode).collect();
         let records = vertices.len();
-        let (mut cells, mut order) = (vec![0; records], vec![0; records]);
-        let mut taken = vec![0; records];
-        // No table passes with more rounds than records, so this is always enough.
-        let outcome = settle(text.n, &text.table, &mut cells, &mut order, &mut taken);
+        let mut lent = Lent::enough(records);
+        let outcome = settle(text.n, &text.table, &mut lent);
         let mut written = vec![None; records];
         let verdict = match outcome {
             Outcome::Refused(refusal) => Verdict::Refused(refusal),
             Outcome::Settled(counts) => {
-                for (&position, place) in order[..counts.written].iter().zip(1..) {
+                for (&position, place) in lent.order[..counts.written].iter().zip(1..) {
                     written[position as usize] = Some(place);
                 }
                 let ways = decide_all(&Table::read(text.n, &text.table));

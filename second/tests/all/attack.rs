@@ -1,9 +1,10 @@
 //! The comparison with other calls: it finds nothing where there is nothing, and every
 //! kind of wrong answer where there is one.
 
-use second::answers::{Answer, Calls, Part, Settled, RULES};
+use second::answers::{Calls, RULES};
 use second::attack::attack_by;
 use second::compare::compare;
+use second::record_box::{Answer, Part, Settled};
 
 /// How many cases differ in the families with these words in their names.
 fn differ(calls: &Calls, words: &[&str]) -> u64 {
@@ -56,8 +57,8 @@ const UNNAMED: Calls = Calls {
 
 /// A count of one more.
 const WRITTEN: Calls = Calls {
-    settle: |n, table, cells, order, taken| {
-        let settled = (RULES.settle)(n, table, cells, order, taken);
+    settle: |n, table, lent| {
+        let settled = (RULES.settle)(n, table, lent);
         let written = settled.written + usize::from(settled.written == 13);
         Settled { written, ..settled }
     },
@@ -66,9 +67,9 @@ const WRITTEN: Calls = Calls {
 
 /// The first place past the number written is not kept.
 const KEPT: Calls = Calls {
-    settle: |n, table, cells, order, taken| {
-        let settled = (RULES.settle)(n, table, cells, order, taken);
-        if let (0, Some(place)) = (settled.number, order.get_mut(settled.written)) {
+    settle: |n, table, lent| {
+        let settled = (RULES.settle)(n, table, lent);
+        if let (0, Some(place)) = (settled.number, lent.order.get_mut(settled.written)) {
             *place = 0;
         }
         settled
@@ -78,9 +79,9 @@ const KEPT: Calls = Calls {
 
 /// The last of a million taken bytes is changed by a refusal.
 const REFUSED: Calls = Calls {
-    settle: |n, table, cells, order, taken| {
-        let settled = (RULES.settle)(n, table, cells, order, taken);
-        if let (10, Some(byte)) = (settled.number, taken.get_mut(999_999)) {
+    settle: |n, table, lent| {
+        let settled = (RULES.settle)(n, table, lent);
+        if let (10, Some(byte)) = (settled.number, lent.taken.get_mut(999_999)) {
             *byte ^= 1;
         }
         settled

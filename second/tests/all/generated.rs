@@ -183,13 +183,7 @@ fn lent_memory_is_kept_where_it_should_be() {
             let (n, table) = table(kind, seed);
             let before = lent(n, &table, seed);
             let mut after = before.clone();
-            let outcome = settle(
-                n,
-                &table,
-                &mut after.cells,
-                &mut after.order,
-                &mut after.taken,
-            );
+            let outcome = settle(n, &table, &mut after);
             if let Outcome::Settled(counts) = outcome {
                 let whole = settled(n, &table);
                 let rounds = counts.highest_round as usize;

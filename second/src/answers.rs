@@ -2,7 +2,7 @@
 //! are compared with them.
 
 use crate::check::{check, Refusal};
-use crate::record::RECORD_BYTES;
+use crate::record::{Name, RECORD_BYTES};
 use crate::record_box::{Answer, Part, Settled};
 use crate::settle::{lookup, settle, Counts, Lent, Outcome};
 
@@ -10,18 +10,16 @@ use crate::settle::{lookup, settle, Counts, Lent, Outcome};
 #[derive(Clone, Copy)]
 pub struct Calls {
     pub check: fn(u8, &[u8]) -> Answer,
-    pub lookup: fn(u8, &[u8], u32, u8, u32) -> Part,
-    pub lookup_answer: fn(u8, &[u8], u32, u8, u32) -> Answer,
+    pub lookup: fn(u8, &[u8], Name) -> Part,
+    pub lookup_answer: fn(u8, &[u8], Name) -> Answer,
     pub settle: fn(u8, &[u8], &mut Lent) -> Settled,
 }
 
 /// The rules of this package.
 pub const RULES: Calls = Calls {
     check: |n, table| answer(check(n, table)),
-    lookup: |n, table, round, author, mark| part(lookup(n, table, round, author, mark)),
-    lookup_answer: |n, table, round, author, mark| {
-        answer(lookup(n, table, round, author, mark).map(|_| ()))
-    },
+    lookup: |n, table, name| part(lookup(n, table, name)),
+    lookup_answer: |n, table, name| answer(lookup(n, table, name).map(|_| ())),
     settle: |n, table, lent| settled(settle(n, table, lent)),
 };
 

@@ -46,6 +46,8 @@ pub mod record_box;
 pub mod rng;
 pub mod settle;
 pub mod shares;
+pub mod shown;
+pub mod shrink;
 pub mod table;
 pub mod text;
 pub mod through;

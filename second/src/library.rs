@@ -2,6 +2,7 @@
 //! stands here, and how much stack a call takes is measured here.
 
 use crate::answers::Calls;
+use crate::record::Name;
 use crate::record_box::{
     record_box_check, record_box_lookup, record_box_lookup_answer, record_box_settle, Answer, Part,
     Settled,
@@ -28,12 +29,14 @@ pub fn check(n: u8, table: &[u8]) -> Answer {
     unsafe { record_box_check(n, table.as_ptr(), table.len()) }
 }
 
-pub fn lookup(n: u8, table: &[u8], round: u32, author: u8, mark: u32) -> Part {
+pub fn lookup(n: u8, table: &[u8], asked: Name) -> Part {
+    let (round, author, mark) = (asked.round, asked.author, asked.mark);
     // SAFETY: see above.
     unsafe { record_box_lookup(n, table.as_ptr(), table.len(), round, author, mark) }
 }
 
-pub fn lookup_answer(n: u8, table: &[u8], round: u32, author: u8, mark: u32) -> Answer {
+pub fn lookup_answer(n: u8, table: &[u8], asked: Name) -> Answer {
+    let (round, author, mark) = (asked.round, asked.author, asked.mark);
     // SAFETY: see above.
     unsafe { record_box_lookup_answer(n, table.as_ptr(), table.len(), round, author, mark) }
 }

@@ -136,13 +136,8 @@ pub fn equivocators(table: &Table) -> usize {
 }
 
 /// Finds a vertex by name: where its 138 bytes begin in the table.
-pub fn lookup(n: u8, table: &[u8], round: u32, author: u8, mark: u32) -> Result<usize, Refusal> {
+pub fn lookup(n: u8, table: &[u8], asked: Name) -> Result<usize, Refusal> {
     check(n, table)?;
-    let asked = Name {
-        round,
-        author,
-        mark,
-    };
     let mut records = table.chunks(RECORD_BYTES);
     match records.position(|record| decode(record).name() == asked) {
         Some(position) => Ok(position * RECORD_BYTES),

@@ -17,14 +17,10 @@ pub struct Stacks(Vec<(&'static str, Option<usize>)>);
 /// Each call on a full table, where no check stops early, and on a name at its end.
 pub fn stacks() -> Stacks {
     let table = honest(N, MOST_RECORDS);
-    let Name {
-        round,
-        author,
-        mark,
-    } = last_name(&table);
+    let name = last_name(&table);
     let check = || library::check(N, &table);
-    let lookup = || library::lookup(N, &table, round, author, mark);
-    let lookup_answer = || library::lookup_answer(N, &table, round, author, mark);
+    let lookup = || library::lookup(N, &table, name);
+    let lookup_answer = || library::lookup_answer(N, &table, name);
     Stacks(vec![
         ("no call at all", taken_by(|| ())),
         ("check", taken_by(check)),

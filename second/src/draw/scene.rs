@@ -4,7 +4,7 @@
 use crate::authors::{f_of, is_author_count, leader};
 use crate::check::Refusal;
 use crate::decide::{decide_all, Way};
-use crate::record::{decode, Name, Vertex, RECORD_BYTES};
+use crate::record::{decode, name, Name, Vertex, RECORD_BYTES};
 use crate::settle::{settle, Counts, Lent, Outcome};
 use crate::table::Table;
 use crate::text::Text;
@@ -109,11 +109,7 @@ fn references(vertices: &[Vertex]) -> Vec<Reference> {
     for (from, vertex) in vertices.iter().enumerate() {
         let round = vertex.round.checked_sub(1);
         for (author, mark) in (0u8..).zip(vertex.refs).filter(|&(_, mark)| mark != 0) {
-            let named = round.map(|round| Name {
-                round,
-                author,
-                mark,
-            });
+            let named = round.map(|round| name(round, author, mark));
             references.push(Reference {
                 from,
                 to: named.and_then(|name| positions.get(&name).copied()),

@@ -3,7 +3,7 @@
 use second::examples::{p2, p7, p7_up_to, p8};
 use second::made::{prints, refusal, settled, vertex, Made};
 use second::program::run;
-use second::record::encode_mended;
+use second::record::{encode_mended, name};
 use second::settle::{lookup, settle, Counts, Lent, Outcome};
 
 const PLACE: u32 = 0xABCD_0123;
@@ -138,7 +138,7 @@ fn equivocators_are_counted_once_and_by_round() {
 fn lookup_found() {
     let table = p7().table();
     for (position, vertex) in p7().vertices.iter().enumerate() {
-        let found = lookup(4, &table, vertex.round, vertex.author, vertex.mark);
+        let found = lookup(4, &table, vertex.name());
         assert_eq!(found, Ok(138 * position));
     }
 }
@@ -156,10 +156,10 @@ fn lookup_of_no_such_name() {
         (u32::MAX, 255, u32::MAX),
         (0, 0, 0),
     ] {
-        let found = lookup(4, &table, round, author, mark);
+        let found = lookup(4, &table, name(round, author, mark));
         assert_eq!(found, Err(refusal(11, 0)));
     }
-    assert_eq!(lookup(4, &[], 1, 0, 1), Err(refusal(11, 0)));
+    assert_eq!(lookup(4, &[], name(1, 0, 1)), Err(refusal(11, 0)));
 }
 
 #[test]
@@ -169,19 +169,19 @@ fn lookup_tells_one_mark_from_another() {
         made.put(1, 0, mark, &[]);
     }
     let table = made.table();
-    assert_eq!(lookup(4, &table, 1, 0, 256), Ok(138));
-    assert_eq!(lookup(4, &table, 1, 0, 65_536), Ok(276));
-    assert_eq!(lookup(4, &table, 1, 0, 1), Err(refusal(11, 0)));
+    assert_eq!(lookup(4, &table, name(1, 0, 256)), Ok(138));
+    assert_eq!(lookup(4, &table, name(1, 0, 65_536)), Ok(276));
+    assert_eq!(lookup(4, &table, name(1, 0, 1)), Err(refusal(11, 0)));
 }
 
 #[test]
 fn lookup_checks_the_table_first() {
     let mut made = p7();
     made.vertices[20].mark = 0;
-    assert_eq!(lookup(4, &made.table(), 1, 0, 1), Err(refusal(5, 20)));
-    assert_eq!(lookup(4, &made.table(), 9, 9, 9), Err(refusal(5, 20)));
-    assert_eq!(lookup(5, &p7().table(), 1, 0, 1), Err(refusal(1, 0)));
-    assert_eq!(lookup(4, &[0], 1, 0, 1), Err(refusal(2, 0)));
+    assert_eq!(lookup(4, &made.table(), name(1, 0, 1)), Err(refusal(5, 20)));
+    assert_eq!(lookup(4, &made.table(), name(9, 9, 9)), Err(refusal(5, 20)));
+    assert_eq!(lookup(5, &p7().table(), name(1, 0, 1)), Err(refusal(1, 0)));
+    assert_eq!(lookup(4, &[0], name(1, 0, 1)), Err(refusal(2, 0)));
 }
 
 #[test]

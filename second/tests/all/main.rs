@@ -10,6 +10,7 @@ mod generated;
 mod past_f;
 mod plain;
 mod refusals;
+mod shrunk;
 mod sizes;
 mod stored;
 mod text;

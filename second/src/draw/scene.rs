@@ -1,9 +1,11 @@
 //! What a picture shows of a table: its vertices and references, and what the
 //! settlement made of it.
 
+use super::reasons::{deeds, Reasons};
+use super::style::{self, Shade};
 use crate::authors::{f_of, is_author_count, leader};
 use crate::check::Refusal;
-use crate::decide::{decide_all, Way};
+use crate::decide::{decide_all, Decision, Way};
 use crate::record::{decode, name, Name, Vertex, RECORD_BYTES};
 use crate::settle::{settle, Counts, Lent, Outcome};
 use crate::table::Table;
@@ -14,6 +16,7 @@ pub enum Verdict {
     Refused(Refusal),
     Settled {
         counts: Counts,
+        table: Table,
         /// Index r-1 is round r.
         ways: Vec<Way>,
     },
@@ -36,6 +39,7 @@ pub struct Scene {
     pub verdict: Verdict,
     /// For each position, its place in the written order, from 1.
     pub written: Vec<Option<usize>>,
+    pub reasons: Reasons,
 }
 
 impl Scene {
@@ -45,14 +49,21 @@ impl Scene {
         let mut lent = Lent::enough(records);
         let outcome = settle(text.n, &text.table, &mut lent);
         let mut written = vec![None; records];
+        let mut reasons = Reasons::default();
         let verdict = match outcome {
             Outcome::Refused(refusal) => Verdict::Refused(refusal),
             Outcome::Settled(counts) => {
                 for (&position, place) in lent.order[..counts.written].iter().zip(1..) {
                     written[position as usize] = Some(place);
                 }
-                let ways = decide_all(&Table::read(text.n, &text.table));
-                Verdict::Settled { counts, ways }
+                let table = Table::read(text.n, &text.table);
+                let ways = decide_all(&table);
+                reasons = Reasons::of(&table, &ways);
+                Verdict::Settled {
+                    counts,
+                    table,
+                    ways,
+                }
             }
         };
         Scene {
@@ -61,6 +72,7 @@ impl Scene {
             vertices,
             verdict,
             written,
+            reasons,
         }
     }
 
@@ -80,6 +92,43 @@ impl Scene {
     pub fn is_of_leader(&self, position: usize) -> bool {
         let vertex = &self.vertices[position];
         self.leader(vertex.round) == Some(vertex.author)
+    }
+
+    /// What a vertex is, as its colours say it.
+    pub fn shade(&self, position: usize) -> Shade {
+        let decision = self.way(self.vertices[position].round).map(Way::decision);
+        if self.faulty() == Some(position) {
+            style::FAULTY
+        } else if decision == Some(Decision::Committed(position)) {
+            style::COMMITTED_VERTEX
+        } else if self.written[position].is_some() {
+            style::WRITTEN
+        } else {
+            style::UNWRITTEN
+        }
+    }
+
+    /// What stands in a vertex: its place in the order, or that it is refused.
+    pub fn label(&self, position: usize) -> String {
+        match self.written[position] {
+            _ if self.faulty() == Some(position) => "!".to_string(),
+            Some(place) => place.to_string(),
+            None => String::new(),
+        }
+    }
+
+    /// The colour of a reference that is to a leader vertex.
+    pub fn leader_shade(&self, reference: &Reference) -> Option<Shade> {
+        let to = reference.to.filter(|&to| self.is_of_leader(to))?;
+        Some(style::decided(self.way(self.vertices[to].round)).0)
+    }
+
+    /// What the vertex does to the leader vertices below it; nothing in a refused table.
+    pub fn deeds(&self, position: usize) -> Vec<String> {
+        match &self.verdict {
+            Verdict::Refused(_) => Vec::new(),
+            Verdict::Settled { table, .. } => deeds(table, position),
+        }
     }
 
     /// The record that the refusal is about, if it is about one.

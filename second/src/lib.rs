@@ -7,7 +7,8 @@
 //! stored tables of the crate of that name; `through` compares a built program with
 //! `program`; `text` is a table to read and write by hand, `files` reads it, and `draw`
 //! makes a picture of it; `answers` and `ask` compare any calls with the rules, `compare`
-//! on random tables and `attack` on whole families.
+//! on random tables and `attack` on whole families; where answers differ, `shrink` makes the
+//! case small and `shown` is what a reader sees of it.
 //! `record_box` has the shape of the C interface. With the feature `library`, `library`
 //! calls the proved code through it, and `bench` measures the proved check against `plain` and
 //! the settlement against `plain_settle`, on honest tables and on those of `hostile`.

@@ -30,6 +30,9 @@ struct Timed {
     outcome: Settled,
 }
 
+/// What a bar is set on.
+type Measure = fn(&Group) -> f64;
+
 /// All tables of one n.
 struct Group {
     n: u8,
@@ -136,7 +139,7 @@ impl Display for Settlements {
         for difference in &self.differed {
             writeln!(f, "the settlements differ: {difference}")?;
         }
-        let bars: [(f64, fn(&Group) -> f64, &str); 3] = [
+        let bars: [(f64, Measure, &str); 3] = [
             (PLAIN_BAR, Group::honest_ratio, "ratio of an honest table"),
             (
                 HOSTILE_BAR,

@@ -1,10 +1,10 @@
 //! The comparison with other calls: it finds nothing where there is nothing, and every
 //! kind of wrong answer where there is one.
 
+use crate::wrong::{BEFORE, KEPT, POSITION, REFUSED, UNNAMED, WRITTEN};
 use second::answers::{Calls, RULES};
 use second::attack::attack_by;
 use second::compare::compare;
-use second::record_box::{Answer, Part, Settled};
 
 /// How many cases differ in the families with these words in their names.
 fn differ(calls: &Calls, words: &[&str]) -> u64 {
@@ -19,75 +19,6 @@ fn the_rules_agree_with_themselves() {
     assert_eq!(differ(&RULES, &["length", "fields", "names"]), 0);
     assert_eq!(compare(&RULES, 300, 1).differed(), 0);
 }
-
-/// A position that is one off.
-const POSITION: Calls = Calls {
-    check: |n, table| {
-        let answer = (RULES.check)(n, table);
-        let position = answer.position + usize::from(answer.number == 8);
-        Answer { position, ..answer }
-    },
-    ..RULES
-};
-
-/// A lookup that hands back the record before.
-const BEFORE: Calls = Calls {
-    lookup: |n, table, name| {
-        let part = (RULES.lookup)(n, table, name);
-        let begin = part.begin.saturating_sub(138);
-        Part { begin, ..part }
-    },
-    ..RULES
-};
-
-/// 11 before the refusals of the table.
-const UNNAMED: Calls = Calls {
-    lookup_answer: |n, table, name| {
-        let answer = (RULES.lookup_answer)(n, table, name);
-        match answer.number {
-            7 => Answer {
-                number: 11,
-                position: 0,
-            },
-            _ => answer,
-        }
-    },
-    ..RULES
-};
-
-/// A count of one more.
-const WRITTEN: Calls = Calls {
-    settle: |n, table, lent| {
-        let settled = (RULES.settle)(n, table, lent);
-        let written = settled.written + usize::from(settled.written == 13);
-        Settled { written, ..settled }
-    },
-    ..RULES
-};
-
-/// The first place past the number written is not kept.
-const KEPT: Calls = Calls {
-    settle: |n, table, lent| {
-        let settled = (RULES.settle)(n, table, lent);
-        if let (0, Some(place)) = (settled.number, lent.order.get_mut(settled.written)) {
-            *place = 0;
-        }
-        settled
-    },
-    ..RULES
-};
-
-/// The last of a million taken bytes is changed by a refusal.
-const REFUSED: Calls = Calls {
-    settle: |n, table, lent| {
-        let settled = (RULES.settle)(n, table, lent);
-        if let (10, Some(byte)) = (settled.number, lent.taken.get_mut(999_999)) {
-            *byte ^= 1;
-        }
-        settled
-    },
-    ..RULES
-};
 
 #[test]
 fn every_wrong_answer_is_found() {

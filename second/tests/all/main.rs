@@ -15,3 +15,4 @@ mod sizes;
 mod stored;
 mod text;
 mod vectors;
+mod wrong;

@@ -1,11 +1,13 @@
 //! Differences made small, with calls and programs that are wrong on purpose.
 
-use second::answers::{Calls, RULES};
+use crate::wrong::{BEFORE, LENGTH, SHORT, SPLIT, SUM, THROUGH};
+use second::answers::Calls;
 use second::ask::{first_difference, Case};
+use second::compare::compare;
 use second::decide::{decide_all, Way};
+use second::examples::p7;
 use second::generate::{table, Kind};
 use second::program::run;
-use second::record_box::{Answer, Part, Settled};
 use second::shown;
 use second::table::Table;
 use second::text::read;
@@ -29,71 +31,6 @@ fn lines(shown: &str) -> Vec<&str> {
     lines.filter(|line| !line.is_empty()).collect()
 }
 
-/// Wrong wherever the table is settled and the ways of its rounds are so.
-fn wrong_if(settled: Settled, n: u8, table: &[u8], is: fn(&Way) -> bool) -> Settled {
-    let wrong = settled.number == 0 && decide_all(&Table::read(n, table)).iter().any(is);
-    let written = settled.written + usize::from(wrong);
-    Settled { written, ..settled }
-}
-
-/// Wrong where a round is committed through an anchor.
-const THROUGH: Calls = Calls {
-    settle: |n, table, lent| {
-        let settled = (RULES.settle)(n, table, lent);
-        wrong_if(settled, n, table, |way| {
-            matches!(way, Way::IndirectCommit { .. })
-        })
-    },
-    ..RULES
-};
-
-/// Wrong where an author has two records in a round.
-const SPLIT: Calls = Calls {
-    settle: |n, table, lent| {
-        let settled = (RULES.settle)(n, table, lent);
-        let equivocators = settled.equivocators.min(1);
-        Settled {
-            equivocators: settled.equivocators - equivocators,
-            ..settled
-        }
-    },
-    ..RULES
-};
-
-/// Wrong where the cells are one too few.
-const SHORT: Calls = Calls {
-    settle: |n, table, lent| match (RULES.settle)(n, table, lent) {
-        settled if settled.number == 10 => Settled {
-            position: 1,
-            ..settled
-        },
-        settled => settled,
-    },
-    ..RULES
-};
-
-/// Hands back the record before.
-const BEFORE: Calls = Calls {
-    lookup: |n, table, name| {
-        let part = (RULES.lookup)(n, table, name);
-        let begin = part.begin.saturating_sub(138);
-        Part { begin, ..part }
-    },
-    ..RULES
-};
-
-/// Does not mind the sum of the first record.
-const SUM: Calls = Calls {
-    check: |n, table| match (RULES.check)(n, table) {
-        Answer {
-            number: 4,
-            position: 0,
-        } => (RULES.check)(n, &[]),
-        answer => answer,
-    },
-    ..RULES
-};
-
 /// Round 1 and the anchor in round 4, with fewer records than P7 has.
 #[test]
 fn an_indirect_decision() {
@@ -116,6 +53,20 @@ fn two_records_of_an_author() {
     assert_eq!(authors, "authors 4");
     assert_eq!(second, format!("{first} mark 2"));
     assert!(shown.contains("# lent: 1 cells, 2 order places, 2 taken bytes; before: [0] [0, 0]"));
+}
+
+/// The same among random tables: each is shown with what made it.
+#[test]
+fn what_the_comparison_shows() {
+    let shown = compare(&SPLIT, 60, 1).to_string();
+    let differences: Vec<&str> = shown.split("DIFFERS: --kind ").skip(1).collect();
+    assert_eq!(differences.len(), 5);
+    for difference in differences {
+        let (made_by, small) = difference.split_once("; made small:\n").expect("a case");
+        assert!(made_by.contains(" --seed "), "{made_by}");
+        assert!(small.contains("\nauthors 4\n\nround 1 author "), "{small}");
+        assert_eq!(small.matches("\nround 1 author ").count(), 2, "{small}");
+    }
 }
 
 /// The buffers stay too short as the table gets smaller.
@@ -156,19 +107,9 @@ fn a_wrong_sum() {
 /// What is no whole record is shown too.
 #[test]
 fn bytes_behind() {
-    let wrong = Calls {
-        check: |n, table| match (RULES.check)(n, table) {
-            Answer { number: 2, .. } => Answer {
-                number: 0,
-                position: 0,
-            },
-            answer => answer,
-        },
-        ..RULES
-    };
-    let mut table = second::examples::p7().table();
+    let mut table = p7().table();
     table.extend([7; 100]);
-    let shown = shown::case(&wrong, &Case::drawn(4, table, 1));
+    let shown = shown::case(&LENGTH, &Case::drawn(4, table, 1));
     assert_eq!(lines(&shown), ["authors 4"], "{shown}");
     assert!(
         shown.ends_with("# behind it 1 bytes, which no text has: 07\n"),

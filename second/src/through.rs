@@ -119,28 +119,25 @@ impl Through<'_> {
     /// A smaller input on which the command still prints another thing, and both.
     fn shown(&self, bytes: &[u8], piece: usize) -> io::Result<String> {
         // Pieces take their time, and mostly there is no need of them.
-        let (piece, most) = match self.differs(bytes, bytes.len()) {
-            true => (PROGRAM_BYTES, MOST_ASKED),
+        let (piece, most) = match self.differs(bytes, usize::MAX) {
+            true => (usize::MAX, MOST_ASKED),
             false => (piece, MOST_ASKED / 100),
         };
         let small = self.small(bytes, piece, most);
         let said = run_command(self.runner, &small, piece)?;
         let expected = run(&small);
+        let ends = if said.ended_well { "well" } else { "badly" };
         let comments = [
             format!("the rules print:\n{}", in_lines(&expected)),
             format!("the command prints:\n{}", in_lines(&said.printed)),
-            format!(
-                "and ends {}",
-                if said.ended_well { "well" } else { "badly" }
-            ),
+            format!("and ends {ends}"),
         ];
-        Ok(match small.split_first() {
-            Some((&n, table)) => shown::with_comments(&comments, n, table),
-            None => format!(
-                "# no byte at all\n{}",
-                shown::with_comments(&comments, 0, &[])
-            ),
-        })
+        let (no_byte, n, table) = match small.split_first() {
+            Some((&n, table)) => ("", n, table),
+            None => ("# no byte at all\n", 0, &[][..]),
+        };
+        let shown = shown::with_comments(&comments, n, table);
+        Ok(format!("{no_byte}{shown}"))
     }
 
     fn small(&self, bytes: &[u8], piece: usize, most: usize) -> Vec<u8> {

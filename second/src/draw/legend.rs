@@ -127,7 +127,7 @@ fn lines(scene: &Scene) -> Vec<Item> {
 
 fn reasons(scene: &Scene) -> Vec<Item> {
     let mut items = Vec::new();
-    if !scene.reasons.found.is_empty() {
+    if !scene.reasons.certifying.is_empty() {
         items.push(ring(false, "certifies, in anchor's history"));
         let path = vec![style::marked(), style::path()];
         items.push(line(path, "path from the anchor to it"));

@@ -107,31 +107,29 @@ impl<'a> Picture<'a> {
         }
     }
 
-    /// What was found through anchors, behind the references: the certificate, and the path to
-    /// it; and what certifies in vain.
+    /// What was found through anchors, behind the references: certificates and the paths to
+    /// them; and what certifies in vain.
     pub fn marks(&mut self) {
-        for found in &self.scene.reasons.found {
-            self.svg.open(&format!("id=\"through-{}\"", found.round));
-            for (name, links) in [("support", &found.support), ("path", &found.path)] {
-                let style = format!("class=\"{name}\" {}", style::marked());
-                self.links(links, &style);
-            }
-            self.svg.close();
+        let reasons = &self.scene.reasons;
+        for (name, links) in [("support", &reasons.support), ("path", &reasons.path)] {
+            let style = format!("class=\"{name}\" {}", style::marked());
+            self.links(links, &style);
         }
-        for &position in &self.scene.reasons.outside {
+        for &position in &reasons.outside {
             self.ring(position, true);
         }
     }
 
     /// The same on top of the references.
     pub fn paths(&mut self) {
-        for found in &self.scene.reasons.found {
-            self.links(&found.path, &style::path());
-            self.ring(found.certifying, false);
+        let reasons = &self.scene.reasons;
+        self.links(&reasons.path, &style::path());
+        for &position in &reasons.certifying {
+            self.ring(position, false);
         }
     }
 
-    fn links(&mut self, links: &[Link], style: &str) {
+    fn links(&mut self, links: &BTreeSet<Link>, style: &str) {
         for &(from, to) in links {
             self.svg.path(self.places[from], self.places[to], style);
         }

@@ -7,20 +7,16 @@ use std::collections::BTreeSet;
 /// A reference, from the vertex at one position to that at another.
 pub type Link = (usize, usize);
 
-/// A certificate that was found in an anchor's history.
-pub struct Found {
-    /// The round that it decides.
-    pub round: u32,
-    pub certifying: usize,
-    /// From the anchor down to the vertex that certifies.
-    pub path: Vec<Link>,
-    /// What makes it certify: its references to supporters, and theirs to the leader vertex.
-    pub support: Vec<Link>,
-}
-
+/// Rounds may share a part of what decides them: it is drawn once.
 #[derive(Default)]
 pub struct Reasons {
-    pub found: Vec<Found>,
+    /// For each round that is committed through an anchor, the vertex in the anchor's history
+    /// that certifies.
+    pub certifying: BTreeSet<usize>,
+    /// From the anchors down to these.
+    pub path: BTreeSet<Link>,
+    /// What makes them certify: references to supporters, and theirs to the leader vertex.
+    pub support: BTreeSet<Link>,
     /// What certifies a leader vertex whose round is skipped through an anchor: it stands
     /// outside the anchor's history.
     pub outside: BTreeSet<usize>,
@@ -35,7 +31,7 @@ impl Reasons {
             reasons.authors.push(authors(table, round, way));
             match way {
                 Way::IndirectCommit { vertex, anchor } => {
-                    reasons.found.extend(found(table, round, vertex, anchor));
+                    reasons.find(table, round, vertex, anchor);
                 }
                 Way::IndirectSkip { .. } => {
                     let leaders = table.leader_vertices(round).into_iter();
@@ -46,6 +42,21 @@ impl Reasons {
             }
         }
         reasons
+    }
+
+    /// Looks for the certificate of the leader vertex at `b` in the anchor's history.
+    fn find(&mut self, table: &Table, round: u32, b: usize, anchor: usize) {
+        let history = history(table, anchor);
+        let mut certifying = certifying(table, round, b).into_iter();
+        let Some(found) = certifying.find(|&p| history[p]) else {
+            return;
+        };
+        let references = table.references(found).iter();
+        for &supporter in references.filter(|&&p| supports(table, p, b)) {
+            self.support.extend([(found, supporter), (supporter, b)]);
+        }
+        self.path.extend(path(table, anchor, found));
+        self.certifying.insert(found);
     }
 }
 
@@ -67,21 +78,6 @@ fn authors(table: &Table, round: u32, way: Way) -> usize {
     };
     let authors = deciding.into_iter().map(|p| table.vertices[p].author);
     authors.collect::<BTreeSet<u8>>().len()
-}
-
-fn found(table: &Table, round: u32, b: usize, anchor: usize) -> Option<Found> {
-    let history = history(table, anchor);
-    let certifying = certifying(table, round, b)
-        .into_iter()
-        .find(|&p| history[p])?;
-    let supporters = table.references(certifying).iter().copied();
-    let supporters = supporters.filter(|&p| supports(table, p, b));
-    Some(Found {
-        round,
-        certifying,
-        path: path(table, anchor, certifying),
-        support: supporters.flat_map(|p| [(certifying, p), (p, b)]).collect(),
-    })
 }
 
 /// A path of references from one vertex down to another in its history.

@@ -11,70 +11,21 @@ use std::fs::File;
 use std::io::{self, Read};
 use std::process::ExitCode;
 
-// The constants of `include/record_box.h`: a record's size, the most records of a table, and what suffices to settle every table.
-const RECORD_BYTES: usize = 138;
-const MOST_RECORDS: usize = 4096;
-const ENOUGH_CELLS: usize = 1400;
-const ENOUGH_ORDER: usize = 4096;
-const ENOUGH_TAKEN: usize = 4096;
+/// The calls and constants of `include/record_box.h`; not all are needed here.
+#[allow(dead_code)]
+#[path = "../../include/record_box.rs"]
+mod c;
+use c::{MOST_RECORDS, RECORD_BYTES};
 
-/// The calls as `include/record_box.h` has them, each in a safe function.
+/// Those that are, each in a safe function.
 mod record_box {
-    use super::{ENOUGH_CELLS, ENOUGH_ORDER, ENOUGH_TAKEN};
-
-    #[repr(C)]
-    struct Answer {
-        number: u32,
-        position: usize,
-    }
-
-    #[repr(C)]
-    struct Part {
-        begin: usize,
-        length: usize,
-    }
-
-    #[repr(C)]
-    struct Settled {
-        number: u32,
-        position: usize,
-        records: usize,
-        highest: u32,
-        undecided: u32,
-        written: usize,
-        equivocators: usize,
-    }
+    use crate::c::{
+        record_box_lookup, record_box_lookup_answer, record_box_settle, Answer, ENOUGH_CELLS, ENOUGH_ORDER,
+        ENOUGH_TAKEN,
+    };
 
     #[link(name = "exports", kind = "static")]
-    extern "C" {
-        fn record_box_lookup(
-            n: u8,
-            table: *const u8,
-            table_length: usize,
-            round: u32,
-            author: u8,
-            mark: u32,
-        ) -> Part;
-        fn record_box_lookup_answer(
-            n: u8,
-            table: *const u8,
-            table_length: usize,
-            round: u32,
-            author: u8,
-            mark: u32,
-        ) -> Answer;
-        fn record_box_settle(
-            n: u8,
-            table: *const u8,
-            table_length: usize,
-            cells: *mut u32,
-            cells_length: usize,
-            order: *mut u32,
-            order_length: usize,
-            taken: *mut u8,
-            taken_length: usize,
-        ) -> Settled;
-    }
+    extern "C" {}
 
     #[derive(Clone, Copy)]
     pub struct Refusal {

@@ -1,58 +1,26 @@
-//! Answers in the shape of the C interface (`include/record_box.h`), and the calls that
-//! give them: those of this package's rules, and whichever are compared with them.
+//! The calls of the C interface (`record_box`): those of this package's rules, and whichever
+//! are compared with them.
 
 use crate::check::{check, Refusal};
-use crate::record::RECORD_BYTES;
-use crate::settle::{lookup, settle, Counts, Outcome};
-
-/// A refusal's number and position; number 0 is none.
-#[repr(C)]
-#[derive(Clone, Copy, Debug, PartialEq, Eq)]
-pub struct Answer {
-    pub number: u32,
-    pub position: usize,
-}
-
-/// Where a part of the lent table begins, and how many bytes it has.
-#[repr(C)]
-#[derive(Clone, Copy, Debug, PartialEq, Eq)]
-pub struct Part {
-    pub begin: usize,
-    pub length: usize,
-}
-
-/// What a settlement gives: the counts, or a refusal with every count 0.
-#[repr(C)]
-#[derive(Clone, Copy, Debug, PartialEq, Eq)]
-pub struct Settled {
-    pub number: u32,
-    pub position: usize,
-    pub records: usize,
-    pub highest: u32,
-    pub undecided: u32,
-    pub written: usize,
-    pub equivocators: usize,
-}
-
-type Settle = fn(u8, &[u8], &mut [u32], &mut [u32], &mut [u8]) -> Settled;
+use crate::record::{Name, RECORD_BYTES};
+use crate::record_box::{Answer, Part, Settled};
+use crate::settle::{lookup, settle, Counts, Lent, Outcome};
 
 /// Every call of the interface.
 #[derive(Clone, Copy)]
 pub struct Calls {
     pub check: fn(u8, &[u8]) -> Answer,
-    pub lookup: fn(u8, &[u8], u32, u8, u32) -> Part,
-    pub lookup_answer: fn(u8, &[u8], u32, u8, u32) -> Answer,
-    pub settle: Settle,
+    pub lookup: fn(u8, &[u8], Name) -> Part,
+    pub lookup_answer: fn(u8, &[u8], Name) -> Answer,
+    pub settle: fn(u8, &[u8], &mut Lent) -> Settled,
 }
 
 /// The rules of this package.
 pub const RULES: Calls = Calls {
     check: |n, table| answer(check(n, table)),
-    lookup: |n, table, round, author, mark| part(lookup(n, table, round, author, mark)),
-    lookup_answer: |n, table, round, author, mark| {
-        answer(lookup(n, table, round, author, mark).map(|_| ()))
-    },
-    settle: |n, table, cells, order, taken| settled(settle(n, table, cells, order, taken)),
+    lookup: |n, table, name| part(lookup(n, table, name)),
+    lookup_answer: |n, table, name| answer(lookup(n, table, name).map(|_| ())),
+    settle: |n, table, lent| settled(settle(n, table, lent)),
 };
 
 pub fn answer(result: Result<(), Refusal>) -> Answer {

@@ -1,17 +1,21 @@
 //! Asks the rules of this package and other calls the same questions.
 
-use crate::answers::{Answer, Calls, Part, Settled, RULES};
-use crate::generate::{lent, question, Lent};
+use crate::answers::{Calls, RULES};
+use crate::generate::{lent, question};
+use crate::record::Name;
+use crate::record_box::{Answer, Part, Settled};
+use crate::settle::Lent;
 use std::fmt::Debug;
 
 /// Everything that the calls are asked with.
+#[derive(Clone)]
 pub struct Case {
     pub n: u8,
     pub table: Vec<u8>,
     /// What is lent to a settlement, with its contents.
     pub lent: Lent,
-    /// The name that is looked up: round, author, mark.
-    pub name: (u32, u8, u32),
+    /// The name that is looked up.
+    pub name: Name,
 }
 
 impl Case {
@@ -34,12 +38,25 @@ pub struct Asked {
     pub difference: Option<String>,
 }
 
-/// Every call that is compared. A further call is a further line here.
-const CALLS: [fn(&Calls, &Case) -> Vec<Asked>; 3] = [ask_check, ask_lookup, ask_settle];
+/// Asks about one thing.
+pub type Ask = fn(&Calls, &Case) -> Vec<Asked>;
+
+/// Everything that is compared. A further call is a further line here.
+const ASKS: [Ask; 3] = [ask_check, ask_lookup, ask_settle];
 
 /// Asks every call.
 pub fn ask(calls: &Calls, case: &Case) -> Vec<Asked> {
-    CALLS.iter().flat_map(|call| call(calls, case)).collect()
+    ASKS.iter().flat_map(|ask| ask(calls, case)).collect()
+}
+
+/// Whether one of these answers is another than that of the rules.
+pub fn differ(answers: &[Asked]) -> bool {
+    answers.iter().any(|asked| asked.difference.is_some())
+}
+
+/// The first thing about which the answers differ.
+pub fn first_difference(calls: &Calls, case: &Case) -> Option<Ask> {
+    ASKS.into_iter().find(|ask| differ(&ask(calls, case)))
 }
 
 fn ask_check(calls: &Calls, case: &Case) -> Vec<Asked> {
@@ -50,12 +67,11 @@ fn ask_check(calls: &Calls, case: &Case) -> Vec<Asked> {
 
 /// Both questions of the lookup, of one name.
 fn ask_lookup(calls: &Calls, case: &Case) -> Vec<Asked> {
-    let (n, table) = (case.n, &case.table);
-    let (round, author, mark) = case.name;
-    let part = (RULES.lookup)(n, table, round, author, mark);
-    let told = (calls.lookup)(n, table, round, author, mark);
-    let why = (RULES.lookup_answer)(n, table, round, author, mark);
-    let told_why = (calls.lookup_answer)(n, table, round, author, mark);
+    let (n, table, name) = (case.n, &case.table, case.name);
+    let part = (RULES.lookup)(n, table, name);
+    let told = (calls.lookup)(n, table, name);
+    let why = (RULES.lookup_answer)(n, table, name);
+    let told_why = (calls.lookup_answer)(n, table, name);
     vec![
         asked("lookup", part_in_word(part), part, told),
         asked("lookup_answer", in_word(why, "found"), why, told_why),
@@ -66,8 +82,8 @@ fn ask_lookup(calls: &Calls, case: &Case) -> Vec<Asked> {
 /// last place, with what is to be kept.
 fn ask_settle(calls: &Calls, case: &Case) -> Vec<Asked> {
     let (mut mine, mut theirs) = (case.lent.clone(), case.lent.clone());
-    let expected = settle_in(&RULES, case, &mut mine);
-    let told = settle_in(calls, case, &mut theirs);
+    let expected = (RULES.settle)(case.n, &case.table, &mut mine);
+    let told = (calls.settle)(case.n, &case.table, &mut theirs);
     let buffers = Asked {
         call: "settle, buffers",
         word: buffers_in_word(&case.lent, &mine).to_string(),
@@ -75,11 +91,6 @@ fn ask_settle(calls: &Calls, case: &Case) -> Vec<Asked> {
     };
     let word = settled_in_word(expected, &case.lent);
     vec![asked("settle", word, expected, told), buffers]
-}
-
-fn settle_in(calls: &Calls, case: &Case, lent: &mut Lent) -> Settled {
-    let (cells, order, taken) = (&mut lent.cells, &mut lent.order, &mut lent.taken);
-    (calls.settle)(case.n, &case.table, cells, order, taken)
 }
 
 fn buffers_in_word(before: &Lent, after: &Lent) -> &'static str {

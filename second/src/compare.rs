@@ -2,12 +2,13 @@
 //! and counts where they differ.
 
 use crate::answers::Calls;
-use crate::ask::{ask, Case};
+use crate::ask::{ask, differ, Case};
 use crate::generate::{table, Kind};
 use crate::rng::Rng;
+use crate::shown;
 use std::collections::BTreeMap;
 
-/// Of all differences, this many are shown.
+/// Of all cases that differ, this many are shown.
 const SHOWN: usize = 5;
 
 /// What the comparison counted.
@@ -16,8 +17,8 @@ pub struct Comparison {
     differed: u64,
     /// How often each call was answered with each word.
     words: BTreeMap<(&'static str, String), u64>,
-    /// The first differences.
-    shown: Vec<String>,
+    /// The first cases that differ: what made each, and a small one in its place.
+    shown: Vec<(String, String)>,
 }
 
 impl Comparison {
@@ -27,21 +28,20 @@ impl Comparison {
 
     fn count(&mut self, calls: &Calls, kind: Kind, seed: u64) {
         let (n, table) = table(kind, seed);
-        let mut differs = false;
-        for asked in ask(calls, &Case::drawn(n, table, seed)) {
-            if let Some(difference) = &asked.difference {
-                differs = true;
+        let case = Case::drawn(n, table, seed);
+        let answers = ask(calls, &case);
+        match differ(&answers) {
+            false => self.agreed += 1,
+            true => {
+                self.differed += 1;
                 if self.shown.len() < SHOWN {
-                    let (call, kind) = (asked.call, kind.name());
-                    let shown = format!("{call}, kind {kind}, seed {seed}: {difference}");
-                    self.shown.push(shown);
+                    let made_by = format!("--kind {} --seed {seed}", kind.name());
+                    self.shown.push((made_by, shown::case(calls, &case)));
                 }
             }
-            *self.words.entry((asked.call, asked.word)).or_default() += 1;
         }
-        match differs {
-            true => self.differed += 1,
-            false => self.agreed += 1,
+        for asked in answers {
+            *self.words.entry((asked.call, asked.word)).or_default() += 1;
         }
     }
 }
@@ -71,8 +71,8 @@ impl std::fmt::Display for Comparison {
             writeln!(f, "{count:8} {in_100:6.2}%  {call}: {word}")?;
         }
         writeln!(f, "{} cases differ", self.differed)?;
-        for difference in &self.shown {
-            writeln!(f, "  {difference}")?;
+        for (made_by, small) in &self.shown {
+            writeln!(f, "DIFFERS: {made_by}; made small:\n{small}")?;
         }
         writeln!(f, "{} passed, {} failed", self.agreed, self.differed)
     }

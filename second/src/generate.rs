@@ -5,8 +5,9 @@ use crate::check::check;
 use crate::damage::{put, Fault, Record};
 use crate::grow::{grow, one_certificate, view, Crowd, Marks, Plan};
 use crate::program::{PROGRAM_BYTES, PROGRAM_RECORDS};
-use crate::record::{decode, encode_mended, Vertex, MOST_RECORDS, RECORD_BYTES};
+use crate::record::{decode, encode_mended, name, Name, Vertex, MOST_RECORDS, RECORD_BYTES};
 use crate::rng::Rng;
+use crate::settle::Lent;
 
 /// What an input is made for.
 #[derive(Clone, Copy, Debug, PartialEq, Eq)]
@@ -468,14 +469,6 @@ pub fn honest(n: u8, records: usize) -> Vec<u8> {
     bytes_of(&vertices)
 }
 
-/// Lent memory for a settlement, with some contents.
-#[derive(Clone, Debug, PartialEq, Eq)]
-pub struct Lent {
-    pub cells: Vec<u32>,
-    pub order: Vec<u32>,
-    pub taken: Vec<u8>,
-}
-
 /// How many cells a settlement needs, and how many order places and taken bytes. Of a
 /// refused table no number is asked; it may have one cell.
 pub fn needed(n: u8, table: &[u8]) -> (usize, usize) {
@@ -511,21 +504,21 @@ fn lent_length(needed: usize, rng: &mut Rng) -> usize {
 }
 
 /// A name to look up: one of the table's, one next to it, or any.
-pub fn question(table: &[u8], seed: u64) -> (u32, u8, u32) {
+pub fn question(table: &[u8], seed: u64) -> Name {
     let mut rng = Rng::new(seed ^ 0x9E57);
     let records = table.len() / RECORD_BYTES;
     if records == 0 || rng.chance(10) {
-        let number = rng.pick(&[0, 1, 2, u32::MAX]);
-        return (number, rng.pick(&[0, 1, 4, 255]), rng.pick(&[0, 1, number]));
+        let round = rng.pick(&[0, 1, 2, u32::MAX]);
+        return name(round, rng.pick(&[0, 1, 4, 255]), rng.pick(&[0, 1, round]));
     }
     let p = rng.below(records);
-    let vertex = decode(&table[p * RECORD_BYTES..(p + 1) * RECORD_BYTES]);
-    let (round, author, mark) = (vertex.round, vertex.author, vertex.mark);
+    let mut name = decode(&table[p * RECORD_BYTES..(p + 1) * RECORD_BYTES]).name();
     match rng.below(10) {
-        0 => (round.wrapping_add(1), author, mark),
-        1 => (round, author.wrapping_add(1), mark),
-        2 => (round, author, mark.wrapping_add(1)),
-        3 => (round, author, 0),
-        _ => (round, author, mark),
+        0 => name.round = name.round.wrapping_add(1),
+        1 => name.author = name.author.wrapping_add(1),
+        2 => name.mark = name.mark.wrapping_add(1),
+        3 => name.mark = 0,
+        _ => {}
     }
+    name
 }

@@ -7,10 +7,11 @@
 //! stored tables of the crate of that name; `through` compares a built program with
 //! `program`; `text` is a table to read and write by hand, `files` reads it, and `draw`
 //! makes a picture of it; `answers` and `ask` compare any calls with the rules, `compare`
-//! on random tables and `attack` on whole families.
-//! With the feature `library`, `library` calls the proved code, and
-//! `bench` measures the proved check against `plain`; `settle_bench` the settlement against
-//! `plain_settle`, on honest tables and on those of `hostile`.
+//! on random tables and `attack` on whole families; where answers differ, `shrink` makes the
+//! case small and `shown` is what a reader sees of it.
+//! `record_box` has the shape of the C interface. With the feature `library`, `library`
+//! calls the proved code through it, and `bench` measures the proved check against `plain` and
+//! the settlement against `plain_settle`, on honest tables and on those of `hostile`.
 
 #![cfg_attr(not(feature = "library"), forbid(unsafe_code))]
 #![deny(unsafe_code)]
@@ -40,11 +41,14 @@ pub mod plain;
 pub mod plain_settle;
 pub mod program;
 pub mod record;
+// The declarations that every Rust program takes which links the library.
+#[path = "../../include/record_box.rs"]
+pub mod record_box;
 pub mod rng;
 pub mod settle;
-#[cfg(feature = "library")]
-pub mod settle_bench;
 pub mod shares;
+pub mod shown;
+pub mod shrink;
 pub mod table;
 pub mod text;
 pub mod through;

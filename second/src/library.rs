@@ -1,7 +1,13 @@
-//! The proved code, through its C interface (`include/record_box.h`). What is unsafe
-//! in this package stands here.
+//! The proved code, through its C interface (`record_box`). What is unsafe in this package
+//! stands here, and how much stack a call takes is measured here.
 
-use crate::answers::{Answer, Calls, Part, Settled};
+use crate::answers::Calls;
+use crate::record::Name;
+use crate::record_box::{
+    record_box_check, record_box_lookup, record_box_lookup_answer, record_box_settle, Answer, Part,
+    Settled,
+};
+use crate::settle::Lent;
 
 /// The proved code.
 pub const CALLS: Calls = Calls {
@@ -11,37 +17,9 @@ pub const CALLS: Calls = Calls {
     settle,
 };
 
+// `record_box` declares the calls; here they are linked.
 #[link(name = "exports", kind = "static")]
-extern "C" {
-    fn record_box_check(n: u8, table: *const u8, table_length: usize) -> Answer;
-    fn record_box_lookup(
-        n: u8,
-        table: *const u8,
-        table_length: usize,
-        round: u32,
-        author: u8,
-        mark: u32,
-    ) -> Part;
-    fn record_box_lookup_answer(
-        n: u8,
-        table: *const u8,
-        table_length: usize,
-        round: u32,
-        author: u8,
-        mark: u32,
-    ) -> Answer;
-    fn record_box_settle(
-        n: u8,
-        table: *const u8,
-        table_length: usize,
-        cells: *mut u32,
-        cells_length: usize,
-        order: *mut u32,
-        order_length: usize,
-        taken: *mut u8,
-        taken_length: usize,
-    ) -> Settled;
-}
+extern "C" {}
 
 // In each: the pointer and the length are a slice's, which is lent for the whole
 // call; the call keeps no pointer, and only reads the table.
@@ -51,23 +29,24 @@ pub fn check(n: u8, table: &[u8]) -> Answer {
     unsafe { record_box_check(n, table.as_ptr(), table.len()) }
 }
 
-pub fn lookup(n: u8, table: &[u8], round: u32, author: u8, mark: u32) -> Part {
+pub fn lookup(n: u8, table: &[u8], asked: Name) -> Part {
+    let (round, author, mark) = (asked.round, asked.author, asked.mark);
     // SAFETY: see above.
     unsafe { record_box_lookup(n, table.as_ptr(), table.len(), round, author, mark) }
 }
 
-pub fn lookup_answer(n: u8, table: &[u8], round: u32, author: u8, mark: u32) -> Answer {
+pub fn lookup_answer(n: u8, table: &[u8], asked: Name) -> Answer {
+    let (round, author, mark) = (asked.round, asked.author, asked.mark);
     // SAFETY: see above.
     unsafe { record_box_lookup_answer(n, table.as_ptr(), table.len(), round, author, mark) }
 }
 
-pub fn settle(
-    n: u8,
-    table: &[u8],
-    cells: &mut [u32],
-    order: &mut [u32],
-    taken: &mut [u8],
-) -> Settled {
+pub fn settle(n: u8, table: &[u8], lent: &mut Lent) -> Settled {
+    let Lent {
+        cells,
+        order,
+        taken,
+    } = lent;
     // SAFETY: see above; what is lent to be changed is lent to no one else.
     unsafe {
         record_box_settle(

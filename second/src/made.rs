@@ -2,8 +2,8 @@
 
 use crate::check::Refusal;
 use crate::program::run;
-use crate::record::{encode_mended, Vertex, ENTRIES};
-use crate::settle::{settle, Counts, Outcome};
+use crate::record::{encode_mended, Vertex, ENTRIES, RECORD_BYTES};
+use crate::settle::{settle, Counts, Lent, Outcome};
 
 /// Vertices in the order they were put; nothing sorts them.
 #[derive(Clone)]
@@ -135,11 +135,14 @@ impl Settled {
 /// Settles with as many cells, places and taken bytes as there are records, all
 /// of which no settlement would write.
 pub fn settled(n: u8, table: &[u8]) -> Settled {
-    let records = table.len() / 138;
-    let mut cells = vec![99_999; records];
-    let mut order = vec![99_999; records];
-    let mut taken = vec![99; records];
-    let outcome = settle(n, table, &mut cells, &mut order, &mut taken);
+    let records = table.len() / RECORD_BYTES;
+    let mut lent = Lent::filled(records, records, records, 99_999, 99);
+    let outcome = settle(n, table, &mut lent);
+    let Lent {
+        cells,
+        order,
+        taken,
+    } = lent;
     Settled {
         outcome,
         cells,

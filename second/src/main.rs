@@ -17,15 +17,15 @@ const HELP: &str = "\
 second settle                        the program: reads n and a table, prints X or S, R, V lines
 second table FILE                    a table in the text form of examples/README.md, as an input of the program; - is standard input
 second text                          an input of the program, in the text form
-second draw FILE                     a table in the text form, as a picture (SVG)
+second draw FILE                     a table in the text form, as a picture (SVG) that shows how its rounds were decided
 second generate --kind NAME --seed S writes an input of the program
 second shares --cases N --seed S     counts what generated tables reach
 second vectors FOLDER                writes the stored tables of crates/vectors, their names and answers
 second program --runner COMMAND --cases N --seed S
-                                     compares what the command prints with what settle prints
+                                     compares what the command prints with what settle prints; a table on which they differ is made small
 second help                          prints this
 With the feature library, which .ci/library builds and runs:
-second compare --cases N --seed S    asks the proved code too, and counts where the answers differ
+second compare --cases N --seed S    asks the proved code too, counts where the answers differ, and shows small tables on which they do
 second attack                        the same on whole families of tables, names and buffers
 second bench                         times of the proved check beside a plain one, of the settlement, and the stack of each call
 second once proved|plain N RECORDS   one check of an honest full table, for whoever counts its instructions

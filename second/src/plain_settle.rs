@@ -6,7 +6,7 @@ use crate::authors::quorum;
 use crate::check::Refusal;
 use crate::plain::{below, check, name_of, same, u32_at, Record};
 use crate::record::{Name, ENTRIES, RECORD_BYTES};
-use crate::settle::{Counts, Outcome};
+use crate::settle::{Counts, Lent, Outcome};
 use std::ops::Range;
 
 /// In a work byte: the vertex is in the anchor's history. The rest of it is a tag.
@@ -30,13 +30,12 @@ struct Table<'a> {
 
 /// A call of its own, as the proved settlement is one.
 #[inline(never)]
-pub fn settle(
-    n: u8,
-    table: &[u8],
-    cells: &mut [u32],
-    order: &mut [u32],
-    taken: &mut [u8],
-) -> Outcome {
+pub fn settle(n: u8, table: &[u8], lent: &mut Lent) -> Outcome {
+    let Lent {
+        cells,
+        order,
+        taken,
+    } = lent;
     if let Err(refusal) = check(n, table) {
         return Outcome::Refused(refusal);
     }

@@ -2,7 +2,7 @@
 
 use crate::check::Refusal;
 use crate::record::{decode, Vertex, RECORD_BYTES};
-use crate::settle::{settle, Counts, Outcome};
+use crate::settle::{settle, Counts, Lent, Outcome};
 
 /// The program's table holds this many records.
 pub const PROGRAM_RECORDS: usize = 474;
@@ -18,19 +18,16 @@ pub fn run(input: &[u8]) -> Vec<u8> {
         Some((&n, table)) => (n, table),
         None => (0, input),
     };
-    // A table has no more rounds than records, as it passes only without gaps.
-    let mut cells = vec![0; PROGRAM_RECORDS];
-    let mut order = vec![0; PROGRAM_RECORDS];
-    let mut taken = vec![0; PROGRAM_RECORDS];
-    let outcome = settle(n, table, &mut cells, &mut order, &mut taken);
-    lines(table, outcome, &cells, &order).into_bytes()
+    let mut lent = Lent::enough(PROGRAM_RECORDS);
+    let outcome = settle(n, table, &mut lent);
+    lines(table, outcome, &lent).into_bytes()
 }
 
 /// What is printed of an outcome.
-pub fn lines(table: &[u8], outcome: Outcome, cells: &[u32], order: &[u32]) -> String {
+pub fn lines(table: &[u8], outcome: Outcome, lent: &Lent) -> String {
     match outcome {
         Outcome::Refused(refusal) => refusal_line(refusal),
-        Outcome::Settled(counts) => settled_lines(table, counts, cells, order),
+        Outcome::Settled(counts) => settled_lines(table, counts, lent),
     }
 }
 
@@ -38,7 +35,7 @@ pub fn refusal_line(refusal: Refusal) -> String {
     format!("X {} {}\n", refusal.number, refusal.position)
 }
 
-fn settled_lines(table: &[u8], counts: Counts, cells: &[u32], order: &[u32]) -> String {
+fn settled_lines(table: &[u8], counts: Counts, lent: &Lent) -> String {
     let mut text = format!(
         "S {} {} {} {} {}\n",
         counts.records,
@@ -47,10 +44,10 @@ fn settled_lines(table: &[u8], counts: Counts, cells: &[u32], order: &[u32]) -> 
         counts.written,
         counts.equivocators
     );
-    for (round, &cell) in (1..=counts.highest_round).zip(cells) {
+    for (round, &cell) in (1..=counts.highest_round).zip(&lent.cells) {
         text.push_str(&round_line(table, round, cell));
     }
-    for &position in &order[..counts.written] {
+    for &position in &lent.order[..counts.written] {
         let vertex = vertex_at(table, position);
         text.push_str(&format!(
             "V {} {} {}\n",

@@ -23,6 +23,14 @@ pub struct Name {
     pub mark: u32,
 }
 
+pub fn name(round: u32, author: u8, mark: u32) -> Name {
+    Name {
+        round,
+        author,
+        mark,
+    }
+}
+
 /// One record, decoded. Nothing is checked here.
 #[derive(Clone, Debug, PartialEq, Eq)]
 pub struct Vertex {
@@ -37,21 +45,13 @@ pub struct Vertex {
 
 impl Vertex {
     pub fn name(&self) -> Name {
-        Name {
-            round: self.round,
-            author: self.author,
-            mark: self.mark,
-        }
+        name(self.round, self.author, self.mark)
     }
 
     /// The names that it references, by author. It has a round before.
     pub fn referenced(&self) -> impl Iterator<Item = Name> + '_ {
         let entries = (0u8..).zip(self.refs).filter(|&(_, mark)| mark != 0);
-        entries.map(|(author, mark)| Name {
-            round: self.round - 1,
-            author,
-            mark,
-        })
+        entries.map(|(author, mark)| name(self.round - 1, author, mark))
     }
 
     /// How many entries are references.

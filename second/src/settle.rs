@@ -22,14 +22,37 @@ pub enum Outcome {
     Refused(Refusal),
 }
 
-/// Settles a table. A refusal leaves all three lent slices as they were.
-pub fn settle(
-    n: u8,
-    table: &[u8],
-    cells: &mut [u32],
-    order: &mut [u32],
-    taken: &mut [u8],
-) -> Outcome {
+/// The three buffers that are lent to a settlement.
+#[derive(Clone, Debug, PartialEq, Eq)]
+pub struct Lent {
+    pub cells: Vec<u32>,
+    pub order: Vec<u32>,
+    pub taken: Vec<u8>,
+}
+
+impl Lent {
+    /// So many cells, order places and taken bytes, which all hold the same before.
+    pub fn filled(cells: usize, order: usize, taken: usize, place: u32, byte: u8) -> Lent {
+        Lent {
+            cells: vec![place; cells],
+            order: vec![place; order],
+            taken: vec![byte; taken],
+        }
+    }
+
+    /// Enough for every table of so many records: none passes with more rounds.
+    pub fn enough(records: usize) -> Lent {
+        Lent::filled(records, records, records, 0, 0)
+    }
+}
+
+/// Settles a table. A refusal leaves all three buffers as they were.
+pub fn settle(n: u8, table: &[u8], lent: &mut Lent) -> Outcome {
+    let Lent {
+        cells,
+        order,
+        taken,
+    } = lent;
     if let Err(refusal) = check(n, table) {
         return Outcome::Refused(refusal);
     }
@@ -113,13 +136,8 @@ pub fn equivocators(table: &Table) -> usize {
 }
 
 /// Finds a vertex by name: where its 138 bytes begin in the table.
-pub fn lookup(n: u8, table: &[u8], round: u32, author: u8, mark: u32) -> Result<usize, Refusal> {
+pub fn lookup(n: u8, table: &[u8], asked: Name) -> Result<usize, Refusal> {
     check(n, table)?;
-    let asked = Name {
-        round,
-        author,
-        mark,
-    };
     let mut records = table.chunks(RECORD_BYTES);
     match records.position(|record| decode(record).name() == asked) {
         Some(position) => Ok(position * RECORD_BYTES),

@@ -53,12 +53,11 @@ fn shown_by(kind: Kind, seed: u64) -> BTreeSet<String> {
         }
     }
     let mut lent = lent(n, &bytes, seed);
-    let outcome = settle(n, &bytes, &mut lent.cells, &mut lent.order, &mut lent.taken);
+    let outcome = settle(n, &bytes, &mut lent);
     if let Outcome::Refused(refused) = outcome {
         shown.insert(refusal(refused.number));
     }
-    let (round, author, mark) = question(&bytes, seed);
-    match lookup(n, &bytes, round, author, mark) {
+    match lookup(n, &bytes, question(&bytes, seed)) {
         Ok(_) => shown.insert("lookup found".to_string()),
         Err(refused) => shown.insert(refusal(refused.number)),
     };

@@ -188,7 +188,7 @@ pub fn of_input(input: &[u8]) -> Result<String, String> {
         None => (0, input),
     };
     match table.len() % RECORD_BYTES {
-        0 => Ok(write(n, table)),
+        0 => Ok(of_table(n, table)),
         left => Err(format!(
             "{} records and {left} bytes more: only whole records have a text",
             table.len() / RECORD_BYTES
@@ -197,7 +197,7 @@ pub fn of_input(input: &[u8]) -> Result<String, String> {
 }
 
 /// The text of a table of whole records, with an empty line before each round.
-fn write(n: u8, table: &[u8]) -> String {
+pub fn of_table(n: u8, table: &[u8]) -> String {
     let mut text = format!("authors {n}\n");
     let mut before = None;
     for vertex in table.chunks_exact(RECORD_BYTES).map(decode) {

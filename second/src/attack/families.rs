@@ -5,10 +5,11 @@ use crate::ask::Case;
 use crate::authors::AUTHOR_COUNTS;
 use crate::damage::Record;
 use crate::examples::{all, p13_or_p14, p2, p7, p9, padded, supporting};
-use crate::generate::{needed, Lent};
+use crate::generate::needed;
 use crate::made::{vertex, Made};
-use crate::record::{encode_mended, mend, Vertex, RECORD_BYTES};
+use crate::record::{encode_mended, mend, name, Vertex, RECORD_BYTES};
 use crate::rng::Rng;
+use crate::settle::Lent;
 
 // ---- damage
 
@@ -317,7 +318,7 @@ pub fn buffers(attack: &mut Attack) {
                         n,
                         table: table.clone(),
                         lent: filled(cells, order, taken),
-                        name: (1, 0, 1),
+                        name: name(1, 0, 1),
                     });
                 }
             }
@@ -366,7 +367,7 @@ fn names(attack: &mut Attack, n: u8, table: &[u8]) {
         for author in [0, 1, 2, 3, 4, 30, 31, 255] {
             for mark in [0, 1, 2, 3, 257, u32::MAX] {
                 let case = Case {
-                    name: (round, author, mark),
+                    name: name(round, author, mark),
                     ..Case::drawn(n, table.to_vec(), 0)
                 };
                 attack.ask_case(case);

@@ -7,6 +7,8 @@ use crate::record::{Vertex, ENTRIES};
 use std::collections::{BTreeMap, BTreeSet};
 
 pub const RADIUS: f64 = 13.0;
+/// Of what is drawn around a vertex.
+pub const RING: f64 = RADIUS + 4.5;
 /// From a vertex to the next in its cell.
 const ACROSS: f64 = 42.0;
 const DOWN: f64 = 34.0;

@@ -1,11 +1,12 @@
 //! The picture itself, part by part; each covers what was drawn before it.
 
-use super::grid::{Grid, FEW, RADIUS};
+use super::grid::{Grid, FEW, RADIUS, RING};
+use super::reasons::Link;
 use super::scene::{Reference, Scene, Verdict};
 use super::style::{self, decided, Shade};
 use super::svg::{at, Point, Svg};
 use super::{AUTHORS_WIDTH, MARGIN};
-use crate::decide::{Decision, Way};
+use crate::decide::Way;
 use std::collections::BTreeSet;
 
 /// Everything at its place.
@@ -79,15 +80,14 @@ impl<'a> Picture<'a> {
         let mut rows = self.grid.rows();
         let top = rows.next().map_or(0.0, |(_, y, half)| y - half);
         for (round, x) in self.grid.columns() {
-            let way = self.scene.way(round);
-            let (shade, word) = decided(way);
+            let (shade, word) = decided(self.scene.way(round));
             let number = style::words(14.0, "middle", style::INK);
             let decision = style::bold(&style::words(14.0, "middle", shade.line));
             let small = style::words(11.0, "middle", shade.line);
             let name = format!("round {round}");
             self.svg.words(at(x, top - 44.0), &number, &name);
             self.svg.words(at(x, top - 27.0), &decision, word);
-            let how = how(self.scene, way);
+            let how = how(self.scene, round);
             self.svg.words(at(x, top - 12.0), &small, &how);
         }
     }
@@ -99,11 +99,46 @@ impl<'a> Picture<'a> {
             let slot = leader.and_then(|leader| self.grid.cell(round, leader));
             if let (Some(leader), Some(middle)) = (leader, slot) {
                 let (shade, _) = decided(self.scene.way(round));
-                let style = format!("id=\"leader-{round}\" {}", style::frame(shade));
+                let (name, frame) = (shade.name, style::frame(shade));
+                let style = format!("id=\"leader-{round}\" class=\"{name}\" {frame}");
                 self.svg
                     .frame(middle, self.grid.half(round, leader), &style);
             }
         }
+    }
+
+    /// What was found through anchors, behind the references: certificates and the paths to
+    /// them; and what certifies in vain.
+    pub fn marks(&mut self) {
+        let reasons = &self.scene.reasons;
+        for (name, links) in [("support", &reasons.support), ("path", &reasons.path)] {
+            let style = format!("class=\"{name}\" {}", style::marked());
+            self.links(links, &style);
+        }
+        for &position in &reasons.outside {
+            self.ring(position, true);
+        }
+    }
+
+    /// The same on top of the references.
+    pub fn paths(&mut self) {
+        let reasons = &self.scene.reasons;
+        self.links(&reasons.path, &style::path());
+        for &position in &reasons.certifying {
+            self.ring(position, false);
+        }
+    }
+
+    fn links(&mut self, links: &BTreeSet<Link>, style: &str) {
+        for &(from, to) in links {
+            self.svg.path(self.places[from], self.places[to], style);
+        }
+    }
+
+    fn ring(&mut self, position: usize, outside: bool) {
+        let class = if outside { "outside" } else { "certifies" };
+        let style = format!("class=\"{class}\" {}", style::ring(outside));
+        self.svg.sample(self.places[position], RING, &style);
     }
 
     /// A line for each reference. Those to leaders have the colour of the leader's
@@ -131,17 +166,11 @@ impl<'a> Picture<'a> {
     fn references_of(&mut self, shade: Option<Shade>, style: &str) {
         self.svg.open(style);
         for reference in &self.scene.references {
-            if self.leader_shade(reference) == shade {
+            if self.scene.leader_shade(reference) == shade {
                 self.reference(reference);
             }
         }
         self.svg.close();
-    }
-
-    fn leader_shade(&self, reference: &Reference) -> Option<Shade> {
-        let to = reference.to.filter(|&to| self.scene.is_of_leader(to))?;
-        let way = self.scene.way(self.scene.vertices[to].round);
-        Some(decided(way).0)
     }
 
     fn reference(&mut self, reference: &Reference) {
@@ -169,13 +198,17 @@ impl<'a> Picture<'a> {
     pub fn vertices(&mut self) {
         for position in 0..self.scene.vertices.len() {
             let place = self.places[position];
-            let (style, ink) = self.look(position);
+            let shade = self.scene.shade(position);
+            let vertex = &self.scene.vertices[position];
+            let is_twin = self.grid.count(vertex.round, vertex.author) > 1;
+            let style = format!("class=\"{}\" {}", shade.name, style::vertex(shade, is_twin));
             let hint = hint(self.scene, position);
             self.svg.circle(place, RADIUS, &style, &hint);
-            if let Some(label) = self.label(position) {
+            let label = self.scene.label(position);
+            if !label.is_empty() {
                 // Four digits have to fit too.
                 let size = [13.0, 13.0, 13.0, 11.0, 9.0][label.len().min(4)];
-                let style = style::words(size, "middle", ink);
+                let style = style::words(size, "middle", style::ink_on(shade));
                 let below = at(place.x, place.y + 0.35 * size);
                 self.svg.words(below, &style, &label);
             }
@@ -183,30 +216,6 @@ impl<'a> Picture<'a> {
         for position in 0..self.scene.vertices.len() {
             self.mark(position);
         }
-    }
-
-    /// How the circle looks, and the colour of what is written in it.
-    fn look(&self, position: usize) -> (String, &'static str) {
-        let vertex = &self.scene.vertices[position];
-        let decision = self.scene.way(vertex.round).map(Way::decision);
-        let (shade, ink) = if self.scene.faulty() == Some(position) {
-            (style::FAULTY, style::PAPER)
-        } else if decision == Some(Decision::Committed(position)) {
-            (style::COMMITTED_VERTEX, style::PAPER)
-        } else if self.scene.written[position].is_some() {
-            (style::WRITTEN, style::INK)
-        } else {
-            (style::UNWRITTEN, style::INK)
-        };
-        let is_twin = self.grid.count(vertex.round, vertex.author) > 1;
-        (style::vertex(shade, is_twin), ink)
-    }
-
-    fn label(&self, position: usize) -> Option<String> {
-        if self.scene.faulty() == Some(position) {
-            return Some("!".to_string());
-        }
-        self.scene.written[position].map(|place| place.to_string())
     }
 
     /// Only a short mark fits; the hint has every mark.
@@ -229,18 +238,22 @@ fn hint(scene: &Scene, position: usize) -> String {
     let (round, author, mark) = (vertex.round, vertex.author, vertex.mark);
     let batches = vertex.batches;
     let name = format!("position {position}: round {round}, author {author}, mark {mark}");
-    match scene.written[position] {
-        Some(place) => format!("{name}, batches {batches}; written as number {place}"),
-        None => format!("{name}, batches {batches}"),
+    let mut hint = vec![format!("{name}, batches {batches}")];
+    hint.extend(scene.deeds(position));
+    if let Some(place) = scene.written[position] {
+        hint.push(format!("written as number {place}"));
     }
+    hint.join("; ")
 }
 
 /// How a round came by its decision, in a few words.
-fn how(scene: &Scene, way: Option<Way>) -> String {
+fn how(scene: &Scene, round: u32) -> String {
+    let authors = || scene.reasons.authors[round as usize - 1];
     let through = |anchor: usize| format!("through round {}", scene.vertices[anchor].round);
-    match way {
+    match scene.way(round) {
         None | Some(Way::NoneFound) => String::new(),
-        Some(Way::DirectCommit { .. } | Way::DirectSkip) => "direct".to_string(),
+        Some(Way::DirectCommit { .. }) => format!("direct, {} certify", authors()),
+        Some(Way::DirectSkip) => format!("direct, {} blank", authors()),
         Some(Way::IndirectCommit { anchor, .. }) => through(anchor),
         Some(Way::IndirectSkip { anchor }) => through(anchor),
         Some(Way::StoppedAt { round }) => format!("stopped at round {round}"),

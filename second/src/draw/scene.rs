@@ -1,11 +1,13 @@
 //! What a picture shows of a table: its vertices and references, and what the
 //! settlement made of it.
 
+use super::reasons::{deeds, Reasons};
+use super::style::{self, Shade};
 use crate::authors::{f_of, is_author_count, leader};
 use crate::check::Refusal;
-use crate::decide::{decide_all, Way};
-use crate::record::{decode, Name, Vertex, RECORD_BYTES};
-use crate::settle::{settle, Counts, Outcome};
+use crate::decide::{decide_all, Decision, Way};
+use crate::record::{decode, name, Name, Vertex, RECORD_BYTES};
+use crate::settle::{settle, Counts, Lent, Outcome};
 use crate::table::Table;
 use crate::text::Text;
 use std::collections::BTreeMap;
@@ -14,6 +16,7 @@ pub enum Verdict {
     Refused(Refusal),
     Settled {
         counts: Counts,
+        table: Table,
         /// Index r-1 is round r.
         ways: Vec<Way>,
     },
@@ -36,25 +39,31 @@ pub struct Scene {
     pub verdict: Verdict,
     /// For each position, its place in the written order, from 1.
     pub written: Vec<Option<usize>>,
+    pub reasons: Reasons,
 }
 
 impl Scene {
     pub fn of(text: &Text) -> Scene {
         let vertices: Vec<Vertex> = text.table.chunks(RECORD_BYTES).map(decode).collect();
         let records = vertices.len();
-        let (mut cells, mut order) = (vec![0; records], vec![0; records]);
-        let mut taken = vec![0; records];
-        // No table passes with more rounds than records, so this is always enough.
-        let outcome = settle(text.n, &text.table, &mut cells, &mut order, &mut taken);
+        let mut lent = Lent::enough(records);
+        let outcome = settle(text.n, &text.table, &mut lent);
         let mut written = vec![None; records];
+        let mut reasons = Reasons::default();
         let verdict = match outcome {
             Outcome::Refused(refusal) => Verdict::Refused(refusal),
             Outcome::Settled(counts) => {
-                for (&position, place) in order[..counts.written].iter().zip(1..) {
+                for (&position, place) in lent.order[..counts.written].iter().zip(1..) {
                     written[position as usize] = Some(place);
                 }
-                let ways = decide_all(&Table::read(text.n, &text.table));
-                Verdict::Settled { counts, ways }
+                let table = Table::read(text.n, &text.table);
+                let ways = decide_all(&table);
+                reasons = Reasons::of(&table, &ways);
+                Verdict::Settled {
+                    counts,
+                    table,
+                    ways,
+                }
             }
         };
         Scene {
@@ -63,6 +72,7 @@ impl Scene {
             vertices,
             verdict,
             written,
+            reasons,
         }
     }
 
@@ -82,6 +92,43 @@ impl Scene {
     pub fn is_of_leader(&self, position: usize) -> bool {
         let vertex = &self.vertices[position];
         self.leader(vertex.round) == Some(vertex.author)
+    }
+
+    /// What a vertex is, as its colours say it.
+    pub fn shade(&self, position: usize) -> Shade {
+        let decision = self.way(self.vertices[position].round).map(Way::decision);
+        if self.faulty() == Some(position) {
+            style::FAULTY
+        } else if decision == Some(Decision::Committed(position)) {
+            style::COMMITTED_VERTEX
+        } else if self.written[position].is_some() {
+            style::WRITTEN
+        } else {
+            style::UNWRITTEN
+        }
+    }
+
+    /// What stands in a vertex: its place in the order, or that it is refused.
+    pub fn label(&self, position: usize) -> String {
+        match self.written[position] {
+            _ if self.faulty() == Some(position) => "!".to_string(),
+            Some(place) => place.to_string(),
+            None => String::new(),
+        }
+    }
+
+    /// The colour of a reference that is to a leader vertex.
+    pub fn leader_shade(&self, reference: &Reference) -> Option<Shade> {
+        let to = reference.to.filter(|&to| self.is_of_leader(to))?;
+        Some(style::decided(self.way(self.vertices[to].round)).0)
+    }
+
+    /// What the vertex does to the leader vertices below it; nothing in a refused table.
+    pub fn deeds(&self, position: usize) -> Vec<String> {
+        match &self.verdict {
+            Verdict::Refused(_) => Vec::new(),
+            Verdict::Settled { table, .. } => deeds(table, position),
+        }
     }
 
     /// The record that the refusal is about, if it is about one.
@@ -111,11 +158,7 @@ fn references(vertices: &[Vertex]) -> Vec<Reference> {
     for (from, vertex) in vertices.iter().enumerate() {
         let round = vertex.round.checked_sub(1);
         for (author, mark) in (0u8..).zip(vertex.refs).filter(|&(_, mark)| mark != 0) {
-            let named = round.map(|round| Name {
-                round,
-                author,
-                mark,
-            });
+            let named = round.map(|round| name(round, author, mark));
             references.push(Reference {
                 from,
                 to: named.and_then(|name| positions.get(&name).copied()),

@@ -5,24 +5,28 @@ use crate::decide::{Decision, Way};
 /// A line's colour and a paler one to fill with.
 #[derive(Clone, Copy, Debug, PartialEq, Eq)]
 pub struct Shade {
+    /// What it stands for: the class of what has it.
+    pub name: &'static str,
     pub line: &'static str,
     pub fill: &'static str,
 }
 
-const fn shade(line: &'static str, fill: &'static str) -> Shade {
-    Shade { line, fill }
+const fn shade(name: &'static str, line: &'static str, fill: &'static str) -> Shade {
+    Shade { name, line, fill }
 }
 
-pub const COMMITTED: Shade = shade("#1a7f37", "#d2f0da");
-pub const SKIPPED: Shade = shade("#c2410c", "#ffe0cc");
-pub const UNDECIDED: Shade = shade("#6e7781", "#e4e8ec");
+pub const COMMITTED: Shade = shade("committed", "#1a7f37", "#d2f0da");
+pub const SKIPPED: Shade = shade("skipped", "#c2410c", "#ffe0cc");
+pub const UNDECIDED: Shade = shade("undecided", "#6e7781", "#e4e8ec");
 /// A leader of a refused table, in which nothing is decided.
-pub const UNSETTLED: Shade = shade("#8c959f", "#ffffff");
-pub const COMMITTED_VERTEX: Shade = shade("#1a7f37", "#1a7f37");
-pub const WRITTEN: Shade = shade("#1f4e9c", "#dbe9fe");
-pub const UNWRITTEN: Shade = shade("#57606a", "#ffffff");
-pub const EQUIVOCATING: Shade = shade("#8250df", "#f3ecfe");
-pub const FAULTY: Shade = shade("#cf222e", "#cf222e");
+pub const UNSETTLED: Shade = shade("unsettled", "#8c959f", "#ffffff");
+pub const COMMITTED_VERTEX: Shade = shade("committed", "#1a7f37", "#1a7f37");
+pub const WRITTEN: Shade = shade("written", "#1f4e9c", "#dbe9fe");
+pub const UNWRITTEN: Shade = shade("unwritten", "#57606a", "#ffffff");
+pub const EQUIVOCATING: Shade = shade("equivocating", "#8250df", "#f3ecfe");
+pub const FAULTY: Shade = shade("faulty", "#cf222e", "#cf222e");
+/// How a certificate was found through an anchor.
+pub const FOUND: Shade = shade("found", "#7d4e00", "#f5c84c");
 pub const PAPER: &str = "#ffffff";
 pub const INK: &str = "#1f2328";
 /// Every other author.
@@ -35,6 +39,14 @@ pub fn decided(way: Option<Way>) -> (Shade, &'static str) {
         Some(Decision::Undecided) => (UNDECIDED, "undecided"),
         Some(Decision::Skipped) => (SKIPPED, "skip"),
         Some(Decision::Committed(_)) => (COMMITTED, "commit"),
+    }
+}
+
+/// The colour of what is written in a vertex.
+pub fn ink_on(shade: Shade) -> &'static str {
+    match shade.line == shade.fill {
+        true => PAPER,
+        false => INK,
     }
 }
 
@@ -72,7 +84,7 @@ pub fn vertex(shade: Shade, is_twin: bool) -> String {
 
 /// Around a leader's place; dashed where nothing is decided.
 pub fn frame(shade: Shade) -> String {
-    let Shade { line, fill } = shade;
+    let Shade { line, fill, .. } = shade;
     let dashes = match shade == UNSETTLED {
         true => " stroke-dasharray=\"4 3\"",
         false => "",
@@ -84,4 +96,23 @@ pub fn frame(shade: Shade) -> String {
 pub fn missing() -> String {
     let stroke = stroke(FAULTY.line, 1.6, 1.0);
     format!("fill=\"none\" {stroke} stroke-dasharray=\"5 4\"")
+}
+
+/// Behind the references that matter for a certificate, as with a marker pen.
+pub fn marked() -> String {
+    format!("{} stroke-linecap=\"round\"", stroke(FOUND.fill, 8.0, 0.75))
+}
+
+/// The path from an anchor, on top of the mark.
+pub fn path() -> String {
+    stroke(FOUND.line, 2.6, 1.0)
+}
+
+/// Around a vertex that certifies; dashed outside the anchor's history.
+pub fn ring(outside: bool) -> String {
+    let stroke = stroke(FOUND.line, 2.6, 1.0);
+    match outside {
+        true => format!("fill=\"none\" {stroke} stroke-dasharray=\"5 3\""),
+        false => format!("fill=\"{}\" {stroke}", FOUND.fill),
+    }
 }

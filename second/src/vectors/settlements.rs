@@ -9,10 +9,10 @@ use crate::examples::{
     the_higher_in_the_anchors_history, twins_alone, twins_certified, twins_through_an_anchor,
     undecided_in_between,
 };
-use crate::generate::{needed, Lent};
+use crate::generate::needed;
 use crate::made::Made;
 use crate::program::lines;
-use crate::settle::{settle, Outcome};
+use crate::settle::{settle, Lent, Outcome};
 
 // ---- what is printed
 
@@ -23,13 +23,9 @@ const BYTE: u8 = 9;
 
 /// The settlement in fresh buffers of these lengths, and what they hold then.
 fn settled_in(n: u8, table: &[u8], lengths: Lengths) -> (Outcome, Lent) {
-    let mut lent = Lent {
-        cells: vec![PLACE; lengths.cells.into()],
-        order: vec![PLACE; lengths.order.into()],
-        taken: vec![BYTE; lengths.taken.into()],
-    };
-    let (cells, order, taken) = (&mut lent.cells, &mut lent.order, &mut lent.taken);
-    (settle(n, table, cells, order, taken), lent)
+    let (cells, order, taken) = (lengths.cells, lengths.order, lengths.taken);
+    let mut lent = Lent::filled(cells.into(), order.into(), taken.into(), PLACE, BYTE);
+    (settle(n, table, &mut lent), lent)
 }
 
 pub fn settlement_refusal(n: u8, table: &[u8], lengths: Lengths) -> Option<Refusal> {
@@ -42,10 +38,10 @@ pub fn settlement_refusal(n: u8, table: &[u8], lengths: Lengths) -> Option<Refus
 /// The program's lines, and all that the buffers hold then.
 pub fn settlement_text(n: u8, table: &[u8], lengths: Lengths) -> String {
     let (outcome, lent) = settled_in(n, table, lengths);
-    let taken: Vec<u32> = lent.taken.into_iter().map(u32::from).collect();
+    let taken: Vec<u32> = lent.taken.iter().copied().map(u32::from).collect();
     format!(
         "{}cells{}\norder{}\ntaken{}\n",
-        lines(table, outcome, &lent.cells, &lent.order),
+        lines(table, outcome, &lent),
         runs(&lent.cells),
         runs(&lent.order),
         runs(&taken)

@@ -1,7 +1,8 @@
 //! The comparison with other calls: it finds nothing where there is nothing, and every
 //! kind of wrong answer where there is one.
 
-use second::answers::{Answer, Calls, Part, Settled, RULES};
+use crate::wrong::{BEFORE, KEPT, POSITION, REFUSED, UNNAMED, WRITTEN};
+use second::answers::{Calls, RULES};
 use second::attack::attack_by;
 use second::compare::compare;
 
@@ -19,75 +20,6 @@ fn the_rules_agree_with_themselves() {
     assert_eq!(compare(&RULES, 300, 1).differed(), 0);
 }
 
-/// A position that is one off.
-const POSITION: Calls = Calls {
-    check: |n, table| {
-        let answer = (RULES.check)(n, table);
-        let position = answer.position + usize::from(answer.number == 8);
-        Answer { position, ..answer }
-    },
-    ..RULES
-};
-
-/// A lookup that hands back the record before.
-const BEFORE: Calls = Calls {
-    lookup: |n, table, round, author, mark| {
-        let part = (RULES.lookup)(n, table, round, author, mark);
-        let begin = part.begin.saturating_sub(138);
-        Part { begin, ..part }
-    },
-    ..RULES
-};
-
-/// 11 before the refusals of the table.
-const UNNAMED: Calls = Calls {
-    lookup_answer: |n, table, round, author, mark| {
-        let answer = (RULES.lookup_answer)(n, table, round, author, mark);
-        match answer.number {
-            7 => Answer {
-                number: 11,
-                position: 0,
-            },
-            _ => answer,
-        }
-    },
-    ..RULES
-};
-
-/// A count of one more.
-const WRITTEN: Calls = Calls {
-    settle: |n, table, cells, order, taken| {
-        let settled = (RULES.settle)(n, table, cells, order, taken);
-        let written = settled.written + usize::from(settled.written == 13);
-        Settled { written, ..settled }
-    },
-    ..RULES
-};
-
-/// The first place past the number written is not kept.
-const KEPT: Calls = Calls {
-    settle: |n, table, cells, order, taken| {
-        let settled = (RULES.settle)(n, table, cells, order, taken);
-        if let (0, Some(place)) = (settled.number, order.get_mut(settled.written)) {
-            *place = 0;
-        }
-        settled
-    },
-    ..RULES
-};
-
-/// The last of a million taken bytes is changed by a refusal.
-const REFUSED: Calls = Calls {
-    settle: |n, table, cells, order, taken| {
-        let settled = (RULES.settle)(n, table, cells, order, taken);
-        if let (10, Some(byte)) = (settled.number, taken.get_mut(999_999)) {
-            *byte ^= 1;
-        }
-        settled
-    },
-    ..RULES
-};
-
 #[test]
 fn every_wrong_answer_is_found() {
     assert!(differ(&POSITION, &["fields"]) > 0);
@@ -101,19 +33,20 @@ fn every_wrong_answer_is_found() {
     }
 }
 
-/// The case with the smallest table is shown, and the last line counts.
+/// A small table is shown, and the last line counts.
 #[test]
-fn the_smallest_table_is_shown() {
+fn a_small_table_is_shown() {
     let attack = attack_by(&POSITION, |name| name.contains("fields"));
     let text = attack.to_string();
     // One record alone can reference nothing.
-    let shown = "DIFFERS: check: rules Answer { number: 8, position: 0 }, asked Answer { number: 8, position: 1 }";
+    let shown = "DIFFERS, made small:
+# check: rules Answer { number: 8, position: 0 }, asked Answer { number: 8, position: 1 }
+authors 4
+
+round 2 author ";
+    assert_eq!(text.matches("DIFFERS").count(), 1);
     assert!(text.contains(shown), "{text}");
-    let lengths = text.lines().filter_map(|line| line.split_once(", table "));
-    assert!(
-        lengths.map(|(_, table)| table.len()).eq([2 * 138]),
-        "{text}"
-    );
+    assert_eq!(text.matches("\nround ").count(), 1, "{text}");
     let last = format!("{} passed, {} failed\n", attack.passed(), attack.failed());
     assert!(text.ends_with(&last));
 }

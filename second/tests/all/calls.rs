@@ -3,20 +3,21 @@
 use second::examples::{p2, p7, p7_up_to, p8};
 use second::made::{prints, refusal, settled, vertex, Made};
 use second::program::run;
-use second::record::encode_mended;
-use second::settle::{lookup, settle, Counts, Outcome};
+use second::record::{encode_mended, name};
+use second::settle::{lookup, settle, Counts, Lent, Outcome};
 
-const CELL: u32 = 0xC0FF_EE00;
 const PLACE: u32 = 0xABCD_0123;
 const BYTE: u8 = 0xA5;
 
-/// Settles P7 with memory of these lengths, filled with values of its own.
-fn p7_with(cells: usize, order: usize, taken: usize) -> (Outcome, Vec<u32>, Vec<u32>, Vec<u8>) {
-    let mut cells = vec![CELL; cells];
-    let mut order = vec![PLACE; order];
-    let mut taken = vec![BYTE; taken];
-    let outcome = settle(4, &p7().table(), &mut cells, &mut order, &mut taken);
-    (outcome, cells, order, taken)
+/// Memory of these lengths that no settlement would write.
+fn lent(cells: usize, order: usize, taken: usize) -> Lent {
+    Lent::filled(cells, order, taken, PLACE, BYTE)
+}
+
+/// Settles P7 with memory of these lengths.
+fn p7_with(cells: usize, order: usize, taken: usize) -> (Outcome, Lent) {
+    let mut lent = lent(cells, order, taken);
+    (settle(4, &p7().table(), &mut lent), lent)
 }
 
 const P7_CELLS: [u32; 6] = [2, 7, 12, 17, 0, 0];
@@ -35,24 +36,24 @@ const P7_COUNTS: Counts = Counts {
 
 #[test]
 fn exact_memory() {
-    let (outcome, cells, order, taken) = p7_with(6, 24, 24);
+    let (outcome, lent) = p7_with(6, 24, 24);
     assert_eq!(outcome, Outcome::Settled(P7_COUNTS));
-    assert_eq!(cells, P7_CELLS);
-    assert_eq!(order[..13], P7_ORDER);
-    assert_eq!(order[13..], [PLACE; 11]);
-    assert_eq!(taken, P7_TAKEN);
+    assert_eq!(lent.cells, P7_CELLS);
+    assert_eq!(lent.order[..13], P7_ORDER);
+    assert_eq!(lent.order[13..], [PLACE; 11]);
+    assert_eq!(lent.taken, P7_TAKEN);
 }
 
 #[test]
 fn longer_memory_keeps_its_end() {
-    let (outcome, cells, order, taken) = p7_with(9, 30, 27);
+    let (outcome, lent) = p7_with(9, 30, 27);
     assert_eq!(outcome, Outcome::Settled(P7_COUNTS));
-    assert_eq!(cells[..6], P7_CELLS);
-    assert_eq!(cells[6..], [CELL; 3]);
-    assert_eq!(order[..13], P7_ORDER);
-    assert_eq!(order[13..], [PLACE; 17]);
-    assert_eq!(taken[..24], P7_TAKEN);
-    assert_eq!(taken[24..], [BYTE; 3]);
+    assert_eq!(lent.cells[..6], P7_CELLS);
+    assert_eq!(lent.cells[6..], [PLACE; 3]);
+    assert_eq!(lent.order[..13], P7_ORDER);
+    assert_eq!(lent.order[13..], [PLACE; 17]);
+    assert_eq!(lent.taken[..24], P7_TAKEN);
+    assert_eq!(lent.taken[24..], [BYTE; 3]);
 }
 
 #[test]
@@ -64,11 +65,9 @@ fn one_short_is_10_and_changes_nothing() {
         (0, 24, 24),
         (5, 23, 23),
     ] {
-        let (outcome, after_cells, after_order, after_taken) = p7_with(cells, order, taken);
+        let (outcome, after) = p7_with(cells, order, taken);
         assert_eq!(outcome, Outcome::Refused(refusal(10, 0)));
-        assert_eq!(after_cells, vec![CELL; cells]);
-        assert_eq!(after_order, vec![PLACE; order]);
-        assert_eq!(after_taken, vec![BYTE; taken]);
+        assert_eq!(after, lent(cells, order, taken));
     }
 }
 
@@ -77,14 +76,11 @@ fn a_refused_table_changes_nothing_and_comes_before_10() {
     let mut made = p7();
     made.vertices[23].padding = 1;
     for memory in [0, 23, 24, 40] {
-        let mut cells = vec![CELL; memory];
-        let mut order = vec![PLACE; memory];
-        let mut taken = vec![BYTE; memory];
-        let outcome = settle(4, &made.table(), &mut cells, &mut order, &mut taken);
+        let before = lent(memory, memory, memory);
+        let mut after = before.clone();
+        let outcome = settle(4, &made.table(), &mut after);
         assert_eq!(outcome, Outcome::Refused(refusal(5, 23)));
-        assert_eq!(cells, vec![CELL; memory]);
-        assert_eq!(order, vec![PLACE; memory]);
-        assert_eq!(taken, vec![BYTE; memory]);
+        assert_eq!(after, before);
     }
 }
 
@@ -99,10 +95,9 @@ fn an_empty_table_needs_no_memory() {
         equivocators: 0,
     };
     assert_eq!(given.outcome, Outcome::Settled(counts));
-    let mut cells = [CELL];
-    let outcome = settle(4, &[], &mut cells, &mut [], &mut []);
-    assert_eq!(outcome, Outcome::Settled(counts));
-    assert_eq!(cells, [CELL]);
+    let mut after = lent(1, 0, 0);
+    assert_eq!(settle(4, &[], &mut after), Outcome::Settled(counts));
+    assert_eq!(after, lent(1, 0, 0));
 }
 
 #[test]
@@ -143,7 +138,7 @@ fn equivocators_are_counted_once_and_by_round() {
 fn lookup_found() {
     let table = p7().table();
     for (position, vertex) in p7().vertices.iter().enumerate() {
-        let found = lookup(4, &table, vertex.round, vertex.author, vertex.mark);
+        let found = lookup(4, &table, vertex.name());
         assert_eq!(found, Ok(138 * position));
     }
 }
@@ -161,10 +156,10 @@ fn lookup_of_no_such_name() {
         (u32::MAX, 255, u32::MAX),
         (0, 0, 0),
     ] {
-        let found = lookup(4, &table, round, author, mark);
+        let found = lookup(4, &table, name(round, author, mark));
         assert_eq!(found, Err(refusal(11, 0)));
     }
-    assert_eq!(lookup(4, &[], 1, 0, 1), Err(refusal(11, 0)));
+    assert_eq!(lookup(4, &[], name(1, 0, 1)), Err(refusal(11, 0)));
 }
 
 #[test]
@@ -174,19 +169,19 @@ fn lookup_tells_one_mark_from_another() {
         made.put(1, 0, mark, &[]);
     }
     let table = made.table();
-    assert_eq!(lookup(4, &table, 1, 0, 256), Ok(138));
-    assert_eq!(lookup(4, &table, 1, 0, 65_536), Ok(276));
-    assert_eq!(lookup(4, &table, 1, 0, 1), Err(refusal(11, 0)));
+    assert_eq!(lookup(4, &table, name(1, 0, 256)), Ok(138));
+    assert_eq!(lookup(4, &table, name(1, 0, 65_536)), Ok(276));
+    assert_eq!(lookup(4, &table, name(1, 0, 1)), Err(refusal(11, 0)));
 }
 
 #[test]
 fn lookup_checks_the_table_first() {
     let mut made = p7();
     made.vertices[20].mark = 0;
-    assert_eq!(lookup(4, &made.table(), 1, 0, 1), Err(refusal(5, 20)));
-    assert_eq!(lookup(4, &made.table(), 9, 9, 9), Err(refusal(5, 20)));
-    assert_eq!(lookup(5, &p7().table(), 1, 0, 1), Err(refusal(1, 0)));
-    assert_eq!(lookup(4, &[0], 1, 0, 1), Err(refusal(2, 0)));
+    assert_eq!(lookup(4, &made.table(), name(1, 0, 1)), Err(refusal(5, 20)));
+    assert_eq!(lookup(4, &made.table(), name(9, 9, 9)), Err(refusal(5, 20)));
+    assert_eq!(lookup(5, &p7().table(), name(1, 0, 1)), Err(refusal(1, 0)));
+    assert_eq!(lookup(4, &[0], name(1, 0, 1)), Err(refusal(2, 0)));
 }
 
 #[test]

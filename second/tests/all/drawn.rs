@@ -2,7 +2,7 @@
 
 use crate::stored::{example, folder, names};
 use second::draw::draw;
-use second::draw::style::{Shade, COMMITTED, FAULTY, SKIPPED, UNDECIDED, UNSETTLED};
+use second::examples::skipped_in_between;
 use second::generate::{table, Kind};
 use second::record::{decode, Name, Vertex};
 use second::text::{read, Text};
@@ -16,9 +16,21 @@ struct Tag<'a> {
     empty: bool,
 }
 
-impl Tag<'_> {
+impl<'a> Tag<'a> {
     fn has(&self, name: &str, value: &str) -> bool {
         self.attributes.contains(&(name, value))
+    }
+
+    fn get(&self, name: &str) -> Option<&'a str> {
+        let mut attributes = self.attributes.iter();
+        attributes
+            .find(|(of, _)| *of == name)
+            .map(|(_, value)| *value)
+    }
+
+    fn number(&self, name: &str) -> f64 {
+        let value = self.get(name).expect("the attribute");
+        value.parse().expect("a number")
     }
 }
 
@@ -153,30 +165,28 @@ fn generated_tables_are_drawn_whole() {
     }
 }
 
-/// The frames around the leaders' places, by round from 1.
-fn leaders(name: &str) -> Vec<Shade> {
+/// What the frames around the leaders' places say, by round from 1.
+fn leaders(name: &str) -> Vec<String> {
     let picture = draw(&example(name));
     let tags = tags(&picture);
-    let all = [COMMITTED, SKIPPED, UNDECIDED, UNSETTLED];
     let framed = (1..).map_while(|round| {
         let id = format!("leader-{round}");
         let frame = tags.iter().find(|tag| tag.has("id", &id))?;
-        let shade = |s: &Shade| frame.has("stroke", s.line) && frame.has("fill", s.fill);
-        Some(all.into_iter().find(shade).expect("a known colour"))
+        frame.get("class").map(str::to_string)
     });
     framed.collect()
 }
 
 #[test]
-fn leaders_have_the_colours_of_their_decisions() {
-    let (c, s, u) = (COMMITTED, SKIPPED, UNDECIDED);
+fn leaders_show_their_decisions() {
+    let (c, s, u) = ("committed", "skipped", "undecided");
     assert_eq!(leaders("p07"), [c, c, c, c, u, u]);
     assert_eq!(leaders("p08"), [s, c, c, c, u, u]);
     // The leader of round 1 has no vertex.
     assert_eq!(leaders("p05"), [s, u]);
     assert_eq!(leaders("p09"), [u, u]);
-    assert_eq!(leaders("p13"), [UNSETTLED; 2]);
-    assert_eq!(leaders("p01"), []);
+    assert_eq!(leaders("p13"), ["unsettled"; 2]);
+    assert!(leaders("p01").is_empty());
 }
 
 /// What the written order has as numbers, and no number twice.
@@ -188,9 +198,131 @@ fn written_vertices_have_their_places() {
         assert_eq!(picture.matches(&hint).count(), 1, "{place}");
     }
     assert!(!picture.contains("written as number 14"));
-    assert!(
-        picture.contains("position 4: round 2, author 0, mark 1, batches 0; written as number 9<")
-    );
+    let fourth = "position 4: round 2, author 0, mark 1, batches 0; supports (1, 0, 1); ";
+    assert!(picture.contains(&format!("{fourth}written as number 9<")));
+}
+
+/// How often a class occurs.
+fn classes(picture: &str, class: &str) -> usize {
+    let tags = tags(picture);
+    tags.iter().filter(|tag| tag.has("class", class)).count()
+}
+
+/// P7: the anchor references the only vertex that certifies. P8: the
+/// anchor does not reference it.
+#[test]
+fn what_was_found_through_the_anchor_is_shown() {
+    let p7 = draw(&example("p07"));
+    let tags = tags(&p7);
+    assert_eq!((classes(&p7, "path"), classes(&p7, "support")), (1, 6));
+    assert_eq!((classes(&p7, "certifies"), classes(&p7, "outside")), (1, 0));
+    let circles: Vec<&Tag> = tags
+        .iter()
+        .filter(|tag| tag.name == "circle" && !tag.ends)
+        .collect();
+    let ring = tags.iter().find(|tag| tag.has("class", "certifies"));
+    let ring = ring.expect("a ring");
+    let place = |tag: &Tag| (tag.number("cx"), tag.number("cy"));
+    assert_eq!(place(ring), place(circles[8]));
+    let ((x1, y1), (x2, y2)) = (place(circles[15]), place(circles[8]));
+    let path = tags.iter().find(|tag| tag.has("class", "path"));
+    let line = format!("M{x1} {y1}L{x2} {y2}");
+    assert!(path.expect("a path").has("d", &line), "{line}");
+    let deeds = "batches 0; supports (2, 1, 1); certifies (1, 0, 1); ";
+    assert!(p7.contains(&format!("position 8: round 3, author 0, mark 1, {deeds}")));
+
+    let p8 = draw(&example("p08"));
+    assert_eq!((classes(&p8, "path"), classes(&p8, "support")), (0, 0));
+    assert_eq!((classes(&p8, "certifies"), classes(&p8, "outside")), (0, 1));
+}
+
+/// The anchor of round 1 is in round 5, two steps above the certificate.
+#[test]
+fn a_path_may_have_several_steps() {
+    let made = skipped_in_between();
+    let text = Text {
+        title: None,
+        n: made.n,
+        table: made.table(),
+    };
+    let picture = draw(&text);
+    assert!(picture.contains(">through round 5<"));
+    assert_eq!(classes(&picture, "path"), 2);
+}
+
+#[test]
+fn direct_decisions_say_who_decided() {
+    let p3 = draw(&example("p03"));
+    assert!(p3.contains(">direct, 3 certify<"));
+    let p5 = draw(&example("p05"));
+    assert!(p5.contains(">direct, 3 blank<"));
+    assert!(p5.contains("; blank for round 1<"));
+}
+
+#[test]
+fn the_legend_names_what_is_there() {
+    let all = [
+        ("leader, committed", "p07 p08 p02"),
+        ("leader, skipped", "p08 p05"),
+        ("leader, undecided", "p07 p08 p02 p05 p09"),
+        ("leader; nothing is decided", "p14"),
+        ("committed leader vertex", "p07 p08 p02"),
+        ("place in the written order", "p07 p08"),
+        ("not written", "p07 p08 p02 p05 p09"),
+        ("record that is refused", "p14"),
+        ("other record", "p14"),
+        ("one of several of its author", "p09"),
+        ("reference to a leader vertex", "p07 p08 p02 p09"),
+        ("reference to the round before", "p07 p08 p02 p05 p09 p14"),
+        ("reference to no record", "p14"),
+        ("certifies, in anchor&apos;s history", "p07"),
+        ("path from the anchor to it", "p07"),
+        ("support that makes it certify", "p07"),
+        ("certifies, outside the history", "p08"),
+    ];
+    for name in ["p01", "p02", "p05", "p07", "p08", "p09", "p14"] {
+        let picture = draw(&example(name));
+        for (words, of) in all {
+            let there = picture.contains(&format!(">{words}<"));
+            assert_eq!(there, of.contains(name), "{name}: {words}");
+        }
+    }
+}
+
+/// Where words stand: left, right, top, bottom. Fonts differ, so they may be wide.
+fn place_of_words(tag: &Tag, words: &str) -> [f64; 4] {
+    let size = tag.number("font-size");
+    let (x, y) = (tag.number("x"), tag.number("y"));
+    let width = 0.6 * size * words.replace("&apos;", "'").chars().count() as f64;
+    let left = match tag.get("text-anchor") {
+        Some("start") => x,
+        Some("middle") => x - width / 2.0,
+        _ => x - width,
+    };
+    // Words below the picture have 242 before the next sample.
+    let is_item = size == 13.0 && left == x;
+    assert!(!is_item || width <= 242.0, "{words}");
+    [left, left + width, y - 0.75 * size, y + 0.2 * size]
+}
+
+#[test]
+fn words_do_not_overlap() {
+    for name in names() {
+        let picture = draw(&example(&name));
+        let mut placed: Vec<([f64; 4], &str)> = Vec::new();
+        for element in picture.split("<text ").skip(1) {
+            let (attributes, rest) = element.split_once('>').expect("a tag ends");
+            let (words, _) = rest.split_once('<').expect("an element ends");
+            let attributes = format!("text {attributes}");
+            let place = place_of_words(&tag(&attributes), words);
+            let [left, right, top, bottom] = place;
+            for ([l, r, t, b], others) in &placed {
+                let apart = right <= *l || *r <= left || bottom <= *t || *b <= top;
+                assert!(apart || words.is_empty(), "{name}: {words} and {others}");
+            }
+            placed.push((place, words));
+        }
+    }
 }
 
 /// The refusal in words, and one record in red.
@@ -206,7 +338,7 @@ fn refused_tables_say_why() {
         let picture = draw(&example(name));
         assert!(picture.contains(words), "{name}");
         let tags = tags(&picture);
-        let red = |tag: &&Tag| tag.name == "circle" && tag.has("fill", FAULTY.fill);
+        let red = |tag: &&Tag| tag.name == "circle" && tag.has("class", "faulty");
         assert_eq!(tags.iter().filter(red).count(), 1, "{name}");
     }
 }

@@ -1,6 +1,6 @@
 //! The examples of document 01: sums, P1 to P14, and those that are run.
 
-use second::examples::{p12, p13_or_p14, p2, p3, p4, p5, p7, p8, p9, padded};
+use second::examples::{p13_or_p14, p2, p5, p_tables, padded};
 use second::made::{prints, vertex};
 use second::record::{decode, encode, encode_mended, sum_of};
 
@@ -43,11 +43,35 @@ fn layout() {
     assert_eq!(encode(&vertex), bytes);
 }
 
+/// Lines that the document says of P1 to P14; `examples/` has what each prints in whole.
 #[test]
-fn p1_empty() {
-    assert_eq!(prints(4, &[]), "S 0 0 1 0 0\n");
+fn p1_to_p14() {
+    let said: [&[&str]; 14] = [
+        &["S 0 0 1 0 0"],
+        &["S 12 3 2 1 0"],
+        &["R 1 commit 0 1"],
+        &["R 1 undecided"],
+        &["S 6 2 2 0 0", "R 1 skip"],
+        &["S 5 2 1 0 0"],
+        &["S 24 6 5 13 0", "R 1 commit 0 1"],
+        &["S 24 6 5 11 0", "R 1 skip"],
+        &["S 9 2 1 0 1", "R 1 undecided"],
+        &["X 5 0"],
+        &["X 4 0"],
+        &["X 6 1"],
+        &["X 7 3"],
+        &["X 8 3"],
+    ];
+    for (number, (table, lines)) in (1..).zip(p_tables().into_iter().zip(said)) {
+        let printed = prints(4, &table);
+        for wanted in lines {
+            let there = printed.lines().any(|line| line == *wanted);
+            assert!(there, "P{number}: {wanted}\n{printed}");
+        }
+    }
 }
 
+/// The one that the document has in whole.
 #[test]
 fn p2_full() {
     let expected = "\
@@ -60,143 +84,20 @@ V 1 0 1
     assert_eq!(p2().prints(), expected);
 }
 
+/// P6 and P13, P14, whichever author it is; and P11 with other wrong sums.
 #[test]
-fn p3_three_certify() {
-    let expected = "\
-S 11 3 2 1 0
-R 1 commit 0 1
-R 2 undecided
-R 3 undecided
-V 1 0 1
-";
-    assert_eq!(p3().prints(), expected);
-}
-
-#[test]
-fn p4_two_certify() {
-    let expected = "\
-S 10 3 1 0 0
-R 1 undecided
-R 2 undecided
-R 3 undecided
-";
-    assert_eq!(p4().prints(), expected);
-}
-
-#[test]
-fn p5_three_blank() {
-    let expected = "\
-S 6 2 2 0 0
-R 1 skip
-R 2 undecided
-";
-    assert_eq!(p5().prints(), expected);
-}
-
-#[test]
-fn p6_two_blank() {
-    let expected = "\
-S 5 2 1 0 0
-R 1 undecided
-R 2 undecided
-";
+fn it_does_not_matter_which_one() {
     for author in 1..=3 {
-        assert_eq!(p5().without(2, author).prints(), expected);
+        let p6 = p5().without(2, author).prints();
+        assert!(p6.starts_with("S 5 2 1 0 0\n"), "{p6}");
     }
-}
-
-#[test]
-fn p7_commit_through_the_anchor() {
-    let expected = "\
-S 24 6 5 13 0
-R 1 commit 0 1
-R 2 commit 1 1
-R 3 commit 2 1
-R 4 commit 3 1
-R 5 undecided
-R 6 undecided
-V 1 0 1
-V 1 1 1
-V 1 2 1
-V 1 3 1
-V 2 1 1
-V 2 2 1
-V 2 3 1
-V 3 2 1
-V 2 0 1
-V 3 0 1
-V 3 1 1
-V 3 3 1
-V 4 3 1
-";
-    assert_eq!(p7().prints(), expected);
-}
-
-#[test]
-fn p8_skip_through_the_anchor() {
-    let expected = "\
-S 24 6 5 11 0
-R 1 skip
-R 2 commit 1 1
-R 3 commit 2 1
-R 4 commit 3 1
-R 5 undecided
-R 6 undecided
-V 1 0 1
-V 1 1 1
-V 1 2 1
-V 1 3 1
-V 2 1 1
-V 2 2 1
-V 2 3 1
-V 3 2 1
-V 3 1 1
-V 3 3 1
-V 4 3 1
-";
-    assert_eq!(p8().prints(), expected);
-}
-
-#[test]
-fn p9_a_second_leader_vertex() {
-    let expected = "\
-S 9 2 1 0 1
-R 1 undecided
-R 2 undecided
-";
-    assert_eq!(p9().prints(), expected);
-}
-
-#[test]
-fn p10_padding() {
-    assert_eq!(prints(4, &padded(0)), "X 5 0\n");
-}
-
-#[test]
-fn p11_padding_and_the_sum_off() {
-    assert_eq!(prints(4, &padded(1)), "X 4 0\n");
-    assert_eq!(prints(4, &padded(65_535)), "X 4 0\n");
-    // A sum that doesn't count the padding is wrong too: it is byte 135, the high
-    // half of a word.
-    assert_eq!(prints(4, &padded(0u16.wrapping_sub(256))), "X 4 0\n");
-}
-
-#[test]
-fn p12_a_record_twice() {
-    assert_eq!(p12().prints(), "X 6 1\n");
-}
-
-#[test]
-fn p13_two_references() {
     for author in 0..4 {
         assert_eq!(p13_or_p14(author, &[0, 1]).prints(), "X 7 3\n");
-    }
-}
-
-#[test]
-fn p14_a_reference_to_no_record() {
-    for author in 0..4 {
         assert_eq!(p13_or_p14(author, &[1, 2, 3]).prints(), "X 8 3\n");
+    }
+    // One that doesn't count the padding is wrong too: it is byte 135, the high half of a word.
+    for off in [65_535, 0u16.wrapping_sub(256)] {
+        assert_eq!(prints(4, &padded(off)), "X 4 0\n");
     }
 }
 

@@ -183,13 +183,7 @@ fn lent_memory_is_kept_where_it_should_be() {
             let (n, table) = table(kind, seed);
             let before = lent(n, &table, seed);
             let mut after = before.clone();
-            let outcome = settle(
-                n,
-                &table,
-                &mut after.cells,
-                &mut after.order,
-                &mut after.taken,
-            );
+            let outcome = settle(n, &table, &mut after);
             if let Outcome::Settled(counts) = outcome {
                 let whole = settled(n, &table);
                 let rounds = counts.highest_round as usize;
@@ -210,14 +204,9 @@ fn lent_memory_is_kept_where_it_should_be() {
 #[test]
 fn lookups_fit_the_records() {
     for (kind, seed, n, table) in passing_tables(60) {
-        let (round, author, mark) = question(&table, seed);
-        let name = Name {
-            round,
-            author,
-            mark,
-        };
+        let name = question(&table, seed);
         let expected = position_of(&vertices(&table)).get(&name).map(|p| 138 * p);
-        let found = lookup(n, &table, round, author, mark);
+        let found = lookup(n, &table, name);
         assert_eq!(found.ok(), expected, "{kind:?} {seed}");
     }
 }

@@ -26,9 +26,8 @@ fn plain_settles_as_the_rules_do() {
         let (n, table) = table(kind, seed);
         let mut mine = lent(n, &table, seed);
         let mut plain = mine.clone();
-        let expected = settle(n, &table, &mut mine.cells, &mut mine.order, &mut mine.taken);
-        let (cells, order, taken) = (&mut plain.cells, &mut plain.order, &mut plain.taken);
-        let told = plain_settle::settle(n, &table, cells, order, taken);
+        let expected = settle(n, &table, &mut mine);
+        let told = plain_settle::settle(n, &table, &mut plain);
         assert_eq!(told, expected, "{kind:?}, seed {seed}");
         assert_eq!(plain, mine, "{kind:?}, seed {seed}");
     }

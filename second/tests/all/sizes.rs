@@ -3,7 +3,7 @@
 use second::check::check;
 use second::examples::tallest;
 use second::made::{refusal, Made};
-use second::settle::{settle, Outcome};
+use second::settle::{settle, Lent, Outcome};
 
 /// 1,024 full rounds.
 #[test]
@@ -24,7 +24,7 @@ fn records_4_096() {
 fn records_4_097() {
     let made = Made::full_rounds(4, 4_097);
     assert_eq!(check(4, &made.table()), Err(refusal(3, 0)));
-    let outcome = settle(4, &made.table(), &mut [], &mut [], &mut []);
+    let outcome = settle(4, &made.table(), &mut Lent::enough(0));
     assert_eq!(outcome, Outcome::Refused(refusal(3, 0)));
 }
 

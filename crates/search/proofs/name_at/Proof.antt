@@ -1,11 +1,17 @@
 -- `search::name_at` meets its contract: the part is the record at p.
 -- Assumes nothing.
+use mathlib.Core.Path.{_≡_}
+use denote.Ref.{now}
+use Rattle.rules.specs.Record.{first, recordAt}
 use borrow.Author.Needs.{needs}
 use Rattle.search.proofs.name_at.Statement.{statement}
 use Rattle.search.proofs.name_at.Tie as tie
 
 returns : tie.Need-returns
-returns c = rw (← c .before .part .ensures .bytes) (c .name-of .ensures)
+returns c =
+    let a = c .before .before .before .args in
+    let b : now (c .before .part .result) ≡ recordAt first (a .table .now) (a .p) = c .before .part .ensures .bytes in
+    rw (← b) (c .name-of .ensures)
 
 pub name-at-spec : {M : Type 1} → statement M
 name-at-spec = tie.close (tie.spec

@@ -1,12 +1,14 @@
 //! A table as a picture: rounds across, authors down, references as lines, the leader of
-//! each round in the colour of its decision, and the written order as numbers.
+//! each round in the colour of its decision, the written order as numbers, and what was found
+//! where a round is decided through an anchor.
 
 mod grid;
 mod legend;
 mod picture;
+mod reasons;
 mod refusal;
 mod scene;
-pub mod style;
+mod style;
 mod svg;
 
 use crate::text::Text;
@@ -42,8 +44,8 @@ pub fn draw(text: &Text) -> String {
         .iter()
         .map(|line| MARGIN + width_of(&line.words, line.size));
     let width = ends.fold(LEAST_WIDTH.max(end), f64::max) + MARGIN;
-    let legend = legend::items(&scene, !grid.equivocators().is_empty());
-    let height = grid.bottom + legend::height(legend.len(), width) + MARGIN;
+    let legend = legend::groups(&scene, !grid.equivocators().is_empty());
+    let height = grid.bottom + legend::height(&legend, width) + MARGIN;
 
     let mut svg = Svg::new(width, height);
     let middle = at(width / 2.0, height / 2.0);
@@ -53,7 +55,9 @@ pub fn draw(text: &Text) -> String {
     picture.bands(end);
     picture.rounds();
     picture.leaders();
+    picture.marks();
     picture.references();
+    picture.paths();
     picture.vertices();
     legend::draw(&mut svg, &legend, grid.bottom, width);
     svg.finish()
@@ -88,10 +92,13 @@ fn head(text: &Text, scene: &Scene) -> Vec<HeadLine> {
         Verdict::Settled { counts, .. } => {
             let (records, n, highest) = (counts.records, scene.n, counts.highest_round);
             let (undecided, written) = (counts.first_undecided, counts.written);
-            let equivocators = counts.equivocators;
+            let equivocators = match counts.equivocators {
+                1 => "1 equivocator".to_string(),
+                many => format!("{many} equivocators"),
+            };
             let words = format!(
                 "{records} records, {n} authors, highest round {highest}, first undecided round \
-                 {undecided}, {written} written, {equivocators} equivocators"
+                 {undecided}, {written} written, {equivocators}"
             );
             head.push(line(words, style::INK));
         }

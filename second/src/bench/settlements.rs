@@ -1,18 +1,18 @@
 //! Times of the proved settlement beside a plain one, on honest tables and on hostile
 //! ones.
 
-use crate::answers::{settled, Settled};
-use crate::bench::{milliseconds, over, time};
-use crate::generate::{honest, Lent};
+use super::times::{bar_line, over, time, Times};
+use crate::answers::{settled, RULES};
+use crate::generate::honest;
 use crate::hostile::{hostile, Hostile};
 use crate::library;
 use crate::plain_settle;
 use crate::record::{MOST_RECORDS, RECORD_BYTES};
+use crate::record_box::Settled;
+use crate::settle::Lent;
 use std::fmt::{Display, Formatter};
 use std::hint::black_box;
-use std::time::Duration;
 
-/// Of so many runs of each the fastest counts.
 const RUNS: usize = 20;
 /// On an honest table the proved settlement may take this many times as long as the
 /// plain one.
@@ -26,16 +26,12 @@ const GROWTH_BAR: f64 = 2.4;
 struct Timed {
     what: &'static str,
     records: usize,
-    proved: Duration,
-    plain: Duration,
+    times: Times,
     outcome: Settled,
 }
 
-impl Timed {
-    fn ratio(&self) -> f64 {
-        over(self.proved, self.plain)
-    }
-}
+/// What a bar is set on.
+type Measure = fn(&Group) -> f64;
 
 /// All tables of one n.
 struct Group {
@@ -47,16 +43,16 @@ struct Group {
 
 impl Group {
     fn growth(&self) -> f64 {
-        over(self.full.proved, self.half.proved)
+        over(self.full.times.proved, self.half.times.proved)
     }
 
     fn honest_ratio(&self) -> f64 {
-        self.half.ratio().max(self.full.ratio())
+        self.half.times.ratio().max(self.full.times.ratio())
     }
 
     /// How many times as long as the honest full table this one takes.
     fn factor(&self, timed: &Timed) -> f64 {
-        over(timed.proved, self.full.proved)
+        over(timed.times.proved, self.full.times.proved)
     }
 
     fn highest_factor(&self) -> f64 {
@@ -77,27 +73,8 @@ impl Settlements {
     }
 }
 
-/// Buffers that suffice for every table.
-pub fn room() -> Lent {
-    Lent {
-        cells: vec![0; 1_400],
-        order: vec![0; MOST_RECORDS],
-        taken: vec![0; MOST_RECORDS],
-    }
-}
-
-pub fn settle(n: u8, table: &[u8], lent: &mut Lent) -> Settled {
-    library::settle(n, table, &mut lent.cells, &mut lent.order, &mut lent.taken)
-}
-
 fn by_plain(n: u8, table: &[u8], lent: &mut Lent) -> Settled {
-    let (cells, order, taken) = (&mut lent.cells, &mut lent.order, &mut lent.taken);
-    settled(plain_settle::settle(n, table, cells, order, taken))
-}
-
-fn by_rules(n: u8, table: &[u8], lent: &mut Lent) -> Settled {
-    let (cells, order, taken) = (&mut lent.cells, &mut lent.order, &mut lent.taken);
-    settled(crate::settle::settle(n, table, cells, order, taken))
+    settled(plain_settle::settle(n, table, lent))
 }
 
 pub fn settlements() -> Settlements {
@@ -126,28 +103,26 @@ fn group(n: u8, differed: &mut Vec<String>) -> Group {
 }
 
 fn timed(what: &'static str, n: u8, table: &[u8]) -> Timed {
-    let mut lent = room();
-    let outcome = settle(n, table, &mut lent);
-    let (mut proved, mut plain) = (Duration::MAX, Duration::MAX);
-    for _ in 0..RUNS {
-        proved = proved.min(time(|| settle(black_box(n), black_box(table), &mut lent)));
-        plain = plain.min(time(|| by_plain(black_box(n), black_box(table), &mut lent)));
-    }
+    let mut lent = Lent::enough(MOST_RECORDS);
+    let mut again = lent.clone();
     Timed {
         what,
         records: table.len() / RECORD_BYTES,
-        proved,
-        plain,
-        outcome,
+        outcome: library::settle(n, table, &mut lent),
+        times: Times::fastest(
+            RUNS,
+            || time(|| library::settle(black_box(n), black_box(table), &mut lent)),
+            || time(|| by_plain(black_box(n), black_box(table), &mut again)),
+        ),
     }
 }
 
 /// The answers of all three settlements, where they or the buffers are not one.
 fn difference(what: &str, n: u8, table: &[u8]) -> Option<String> {
-    let mut lent = [room(), room(), room()];
-    let rules = by_rules(n, table, &mut lent[0]);
+    let mut lent: [Lent; 3] = std::array::from_fn(|_| Lent::enough(MOST_RECORDS));
+    let rules = (RULES.settle)(n, table, &mut lent[0]);
     let plain = by_plain(n, table, &mut lent[1]);
-    let proved = settle(n, table, &mut lent[2]);
+    let proved = library::settle(n, table, &mut lent[2]);
     let same = rules == plain && rules == proved && lent[0] == lent[1] && lent[0] == lent[2];
     (!same)
         .then(|| format!("n = {n}, {what}: rules {rules:?}, plain {plain:?}, library {proved:?}"))
@@ -164,13 +139,8 @@ impl Display for Settlements {
         for difference in &self.differed {
             writeln!(f, "the settlements differ: {difference}")?;
         }
-        let highest = |of: fn(&Group) -> f64| self.groups.iter().map(of).fold(0.0, f64::max);
-        let bars = [
-            (
-                PLAIN_BAR,
-                Group::honest_ratio as fn(&Group) -> f64,
-                "ratio of an honest table",
-            ),
+        let bars: [(f64, Measure, &str); 3] = [
+            (PLAIN_BAR, Group::honest_ratio, "ratio of an honest table"),
             (
                 HOSTILE_BAR,
                 Group::highest_factor,
@@ -179,9 +149,7 @@ impl Display for Settlements {
             (GROWTH_BAR, Group::growth, "growth with twice the records"),
         ];
         for (bar, of, what) in bars {
-            let most = highest(of);
-            let met = met(most <= bar);
-            writeln!(f, "bar of {bar}: {met}, the highest {what} is {most:.2}")?;
+            f.write_str(&bar_line(bar, self.groups.iter().map(of), what))?;
         }
         Ok(())
     }
@@ -203,9 +171,7 @@ impl Display for Group {
                 self.n, timed.records
             )?;
             write!(f, "{written:8} {equivocators:13} ")?;
-            write!(f, "{:10.3} ", milliseconds(timed.proved))?;
-            write!(f, "{:10.3} ", milliseconds(timed.plain))?;
-            write!(f, "{:6.2} ", timed.ratio())?;
+            write!(f, "{} ", timed.times)?;
             writeln!(f, "{:12.2}  {}", self.factor(timed), timed.what)?;
         }
         writeln!(
@@ -214,12 +180,5 @@ impl Display for Group {
             self.n,
             self.growth()
         )
-    }
-}
-
-pub fn met(held: bool) -> &'static str {
-    match held {
-        true => "met",
-        false => "NOT met",
     }
 }

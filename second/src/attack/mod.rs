@@ -5,7 +5,8 @@
 mod families;
 
 use crate::answers::Calls;
-use crate::ask::{ask, Asked, Case};
+use crate::ask::{ask, differ, Case};
+use crate::shown;
 use std::collections::BTreeMap;
 use std::fmt::{Display, Formatter};
 
@@ -46,7 +47,9 @@ struct Done {
     /// How often each call was answered with each word.
     words: BTreeMap<(&'static str, String), u64>,
     /// Of the cases that differ, the one with the smallest table.
-    smallest: Option<(Case, String)>,
+    smallest: Option<Case>,
+    /// That case made smaller, for a reader.
+    shown: Option<String>,
 }
 
 /// Every family in turn.
@@ -67,8 +70,11 @@ pub fn attack_by(calls: &Calls, wanted: impl Fn(&str) -> bool) -> Attack {
             failed: 0,
             words: BTreeMap::new(),
             smallest: None,
+            shown: None,
         });
         family(&mut attack);
+        let done = attack.in_hand();
+        done.shown = done.smallest.as_ref().map(|case| shown::case(calls, case));
     }
     attack
 }
@@ -91,31 +97,29 @@ impl Attack {
 
     fn ask_case(&mut self, case: Case) -> bool {
         let answers = ask(&self.calls, &case);
-        let done = self.done.last_mut().expect("a family is in hand");
+        let done = self.in_hand();
         let passes = answers[0].word == "passed";
-        let differences: Vec<String> = answers.iter().filter_map(difference).collect();
+        match differ(&answers) {
+            false => done.passed += 1,
+            true => done.fail(case),
+        }
         for asked in answers {
             *done.words.entry((asked.call, asked.word)).or_default() += 1;
         }
-        match differences.is_empty() {
-            true => done.passed += 1,
-            false => done.fail(case, differences.join("; ")),
-        }
         passes
+    }
+
+    fn in_hand(&mut self) -> &mut Done {
+        self.done.last_mut().expect("a family is in hand")
     }
 }
 
-fn difference(asked: &Asked) -> Option<String> {
-    let difference = asked.difference.as_ref()?;
-    Some(format!("{}: {difference}", asked.call))
-}
-
 impl Done {
-    fn fail(&mut self, case: Case, difference: String) {
+    fn fail(&mut self, case: Case) {
         self.failed += 1;
-        let smaller = |(other, _): &(Case, String)| case.table.len() < other.table.len();
+        let smaller = |other: &Case| case.table.len() < other.table.len();
         if self.smallest.as_ref().is_none_or(smaller) {
-            self.smallest = Some((case, difference));
+            self.smallest = Some(case);
         }
     }
 }
@@ -129,19 +133,8 @@ impl Display for Done {
             let told = of_call.map(|((_, word), count)| format!("{word} {count}"));
             writeln!(f, "  {call}: {}", told.collect::<Vec<_>>().join(", "))?;
         }
-        if let Some((case, difference)) = &self.smallest {
-            let bytes = case.table.iter().map(|byte| format!("{byte:02x}"));
-            writeln!(f, "  DIFFERS: {difference}")?;
-            writeln!(
-                f,
-                "  n = {}, name {:?}, lent {} {} {}, table {}",
-                case.n,
-                case.name,
-                case.lent.cells.len(),
-                case.lent.order.len(),
-                case.lent.taken.len(),
-                bytes.collect::<String>()
-            )?;
+        if let Some(small) = &self.shown {
+            writeln!(f, "DIFFERS, made small:\n{small}")?;
         }
         Ok(())
     }

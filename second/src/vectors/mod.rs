@@ -113,7 +113,7 @@ impl Vector {
     }
 
     fn begin(&self, asked: Name) -> Result<usize, Refusal> {
-        lookup(self.n, &self.table, asked.round, asked.author, asked.mark)
+        lookup(self.n, &self.table, asked)
     }
 
     /// The length of the part that is handed back, and the name in it.

@@ -15,7 +15,7 @@ use std::process::ExitCode;
 #[allow(dead_code)]
 #[path = "../../include/record_box.rs"]
 mod c;
-use c::{MOST_RECORDS, RECORD_BYTES};
+use c::{ENOUGH_CELLS, ENOUGH_ORDER, ENOUGH_TAKEN, MOST_RECORDS, RECORD_BYTES};
 
 /// Those that are, each in a safe function.
 mod record_box {

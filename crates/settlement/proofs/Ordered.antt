@@ -28,10 +28,11 @@ use Rattle.rules.specs.Settlement.{writtenOver, takenBytes}
 use Rattle.rules.proofs.Accepted.{Accepted}
 use Rattle.rules.proofs.Decide.{decisions-length, leads}
 use Rattle.rules.proofs.Highest.{one-later}
-use Rattle.settlement.specs.Write.{placesOver, written, Told, fresh, Led}
-use Rattle.decide.proofs.Sweeps.{history-size, history-past, history-low, history-step}
+use Rattle.settlement.specs.Write.{placesOver, written, Told, fresh, Led, Ordered}
+use Rattle.decide.proofs.Marked.{history-size, history-past, history-low, history-step}
 use Rattle.folds.proofs.Over.{over-at, over-length, over-same, over-over, over-none}
-use Rattle.settlement.proofs.Writing.{places-over, filter-same}
+use Rattle.settlement.proofs.Places.{places-over}
+use Rattle.settlement.proofs.Writing.{filter-same}
 
 -- ---- the slots that are left
 
@@ -267,13 +268,8 @@ taken-over : (w : List ℕ) (k : ℕ) (old : List ℕ) → bytesOver (λ q. bit 
 unfolding bytesOver takenBytes
 taken-over w k old = rw (length-tabulate (λ q. bit (member q w)) k)
 
-pub record Ordered (n : ℕ) (vs : List Vertex) (o m : List ℕ) (count : ℕ) (o′ m′ : List ℕ) : Type 0 where
-  pub places : o′ ≡ writtenOver (order (boxSetting n) n vs) o
-  pub bytes : m′ ≡ writtenOver (takenBytes (order (boxSetting n) n vs) (length vs)) m
-  pub counted : count ≡ length (order (boxSetting n) n vs)
-
 module _ {n : ℕ} {vs : List Vertex} {o m₀ m : List ℕ} {s count : ℕ} {o′ m′ : List ℕ} (cleared : m ≡ bytesOver (λ q. 0) (length vs) m₀) (U : Upto n vs o m s count o′ m′) where
-  ordered : writeFrom references vs (U .so-far) (drop s (decisions (boxSetting n) n vs)) ≡ U .so-far → Ordered n vs o m₀ count o′ m′
+  ordered : writeFrom references vs (U .so-far) (drop s (decisions (boxSetting n) n vs)) ≡ U .so-far → Ordered (boxSetting n) n vs o m₀ count o′ m′
   ordered e =
       let all : U .so-far ≡ order (boxSetting n) n vs = sym e ∙ U .rest in
       record {
@@ -283,11 +279,11 @@ module _ {n : ℕ} {vs : List Vertex} {o m₀ m : List ℕ} {s count : ℕ} {o�
       }
 
   -- the next slot is undecided
-  pub upto-stop : s < highest vs → decisionAt (decisions (boxSetting n) n vs) s ≡ undecided → Ordered n vs o m₀ count o′ m′
+  pub upto-stop : s < highest vs → decisionAt (decisions (boxSetting n) n vs) s ≡ undecided → Ordered (boxSetting n) n vs o m₀ count o′ m′
   upto-stop l e = ordered (rest-stop references vs (U .so-far) (decisions (boxSetting n) n vs) s (rw (decisions-length (boxSetting n) n vs) l) e)
 
   -- no slot is left
-  pub upto-end : highest vs ≤ s → Ordered n vs o m₀ count o′ m′
+  pub upto-end : highest vs ≤ s → Ordered (boxSetting n) n vs o m₀ count o′ m′
   upto-end h = ordered (rest-end references vs (U .so-far) (decisions (boxSetting n) n vs) s (rw (decisions-length (boxSetting n) n vs) h))
 
 -- ---- the leader vertex of a cell

@@ -8,10 +8,25 @@ use lib.ListN.{length, getD, set, take, drop}
 use lib.Dec.{eqb}
 use Rattle.folds.specs.Folds.{_and_, _or_, bit, filterTo, bytesOver}
 use Rattle.rules.specs.declared.Vertex.{Vertex}
-use Rattle.rules.specs.Record.{at, nameOf}
+use Rattle.rules.specs.Record.{Edition, vertices, at, nameOf}
 use Rattle.rules.specs.Support.{references}
 use Rattle.rules.specs.History.{history}
+use Rattle.rules.specs.Decide.{Setting}
+use Rattle.rules.specs.Order.{order}
+use Rattle.rules.specs.Settlement.{writtenOver, takenBytes}
+use Rattle.decide.specs.Ready.{Ready, DecidedFrom}
 use Rattle.decide.specs.Sweep.{markedFrom}
+
+-- What the order is written in: beside the taken bytes of a table that passed, an order place for each of its records.
+pub record Fits (E : Edition) (n : ℕ) (t order taken : List ℕ) : Type 0 where
+  pub ready : Ready E n t taken
+  pub places : length (vertices E t) ≤ length order
+
+-- What is there when every round is decided: its decision in its cell, and nothing taken.
+pub record Decided (C : Setting) (E : Edition) (n : ℕ) (t cells order taken : List ℕ) : Type 0 where
+  pub fits : Fits E n t order taken
+  pub in-cells : DecidedFrom C n (vertices E t) 0 cells
+  pub cleared : taken ≡ bytesOver (λ q. 0) (length (vertices E t)) taken
 
 -- Places from `count` on are written, the others are as before.
 unfoldable pub placesOver : ℕ → List ℕ → List ℕ → List ℕ
@@ -67,3 +82,9 @@ pub record Led (vs : List Vertex) (a count : ℕ) (order taken : List ℕ) (coun
   pub places : order′ ≡ placesOver count (fresh vs a taken) order
   pub bytes : taken′ ≡ bytesOver (λ q. bit (written taken q or getD (history references vs a) q false)) (length vs) taken
   pub counted : count′ ≡ count + length (fresh vs a taken)
+
+-- The whole order is written: in its places, in the taken bytes, and counted.
+pub record Ordered (C : Setting) (n : ℕ) (vs : List Vertex) (o m : List ℕ) (count : ℕ) (o′ m′ : List ℕ) : Type 0 where
+  pub places : o′ ≡ writtenOver (order C n vs) o
+  pub bytes : m′ ≡ writtenOver (takenBytes (order C n vs) (length vs)) m
+  pub counted : count ≡ length (order C n vs)

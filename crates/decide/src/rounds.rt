@@ -77,12 +77,13 @@ fn through_anchor(n: u8, table: &[u8], round: u32, a: usize, walk: Walk, work: &
     requires { ⌜ Walked (verticesOf (now table)) (walk .anchor) (walk .done) (now work) ⌝ }
     ensures { λ r. ⌜ Told (verticesOf (now (table .entry))) (throughAnchor (boxSetting n) n (verticesOf (now (table .entry))) (round - 1) a) (now (work .entry)) (r .cell) (r .walk .anchor) (r .walk .done) (now (work .exit)) ⌝ }
 {
+    let k = record::records_of(table);
     let leader = leader_of(n, round);
     let down = walk_to(n, table, a, begin(n, table, round + 3, 0), walk, work);
     let done = down.done;
     let b = certified_in(n, table, round, leader, a, done, work);
     Round {
-        cell: cell_of(b, record::records_of(table), 1),
+        cell: cell_of(b, k, 1),
         walk: down,
     }
 }

@@ -22,13 +22,13 @@ returns-3 : tie.Need-returns-3
 returns-3 c =
     let h = c .before .before in
     let passes = sym (h .before .before .before .before .check .ensures) ∙ h .before .before .enum-told .given .1 in
-    short-order _ _ _ passes _ (h .before .records-of .ensures) (c .if2 .taken)
+    short-order _ _ _ passes _ (h .before .records-of .ensures) (omega (arith, c .if2 .taken))
 
 returns-4 : tie.Need-returns-4
 returns-4 c =
     let h = c .before .before .before in
     let passes = sym (h .before .before .before .before .check .ensures) ∙ h .before .before .enum-told .given .1 in
-    short-taken _ _ _ passes _ (h .before .records-of .ensures) (c .if3 .taken)
+    short-taken _ _ _ passes _ (h .before .records-of .ensures) (omega (arith, c .if3 .taken))
 
 decide-all-requires : tie.Need-decide-all-requires
 decide-all-requires c κs =

@@ -1,6 +1,7 @@
 -- `references::place_among` meets its contract.
 -- Assumes nothing.
-use mathlib.Core.Path.{refl}
+use mathlib.Core.Path.{_≡_, refl}
+use native.Mathlib.Omega.{arith}
 use borrow.Author.Tests.{eq-eqb, ne-eqb}
 use Rattle.references.specs.Places.{placeAmong}
 use borrow.Author.Needs.{needs}
@@ -9,7 +10,9 @@ use Rattle.references.proofs.place_among.Tie as tie
 
 returns : tie.Need-returns
 unfolding placeAmong
-returns c = rw (eq-eqb _ _ (c .if1 .taken)) refl
+returns c =
+    let none : c .before .before .before .args .x .mark ≡ 0 = omega (arith, c .if1 .taken) in
+    rw (eq-eqb _ _ none) refl
 
 returns-2 : tie.Need-returns-2
 unfolding placeAmong

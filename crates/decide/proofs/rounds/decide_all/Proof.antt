@@ -44,9 +44,9 @@ decide-one-requires c κs =
     let held = l .loop .inv .1 in
     record {
       ready = ready-on (s .pre .0) (l .loop .inv .2);
-      from-one = c .before .before .loop-test .taken;
-      low = l .loop .inv .0;
-      above = record { slots = omega (arith, s .pre .1, held .same-length); held = held .decided };
+      from-one = omega arith;
+      low = omega (arith, l .loop .inv .0);
+      above = record { slots = omega (arith, s .pre .1, held .same-length); held = λ u from-on h. held .decided u (omega (arith, from-on)) h };
       walked = l .loop .inv .3;
     }
 

@@ -11,33 +11,34 @@ use Rattle.decide.proofs.rounds.through_anchor.Statement.{statement}
 use Rattle.decide.proofs.rounds.through_anchor.Tie as tie
 
 leader-of-requires : tie.Need-leader-of-requires
-leader-of-requires c κs = let s = c .before .before in (omega (arith, s .pre .0 .sound .accepted .count), omega arith)
+leader-of-requires c κs = let s = c .before .before .before in (omega (arith, s .pre .0 .sound .accepted .count), omega arith)
 
 walk-to-requires : tie.Need-walk-to-requires
 walk-to-requires c κs =
     let b = c .before in
-    let s = b .before .before .before .before in
+    let s = b .before .before .before .before .before in
     (s .pre .0, (s .pre .1 .1 .1 .0, (omega (arith, b .begin .ensures, s .pre .1 .1 .1 .1 .0), s .pre .1 .1 .1 .1 .1)))
 
 certified-in-requires : tie.Need-certified-in-requires
 certified-in-requires c κs =
     let w = c .before .before .before in
     let b = w .before .before in
-    let s = b .before .before .before .before in
+    let s = b .before .before .before .before .before in
     (ready-on (s .pre .0) (w .walk-to .ensures .0), (s .pre .1 .1 .0, (w .walk-to .ensures .1 .1 .1, omega (arith, b .begin .ensures, w .walk-to .ensures .1 .1 .0))))
 
 cell-of-requires : tie.Need-cell-of-requires
 cell-of-requires c κs =
-    let s = c .before .before .before .before .before .before .before .before .before .before .before in
-    omega (arith, c .records-of .ensures, vertices-length first (s .args .table .now), s .pre .0 .sound .few)
+    let k = c .before .before .before .before .before .before .before .before in
+    let s = k .before .before .before in
+    omega (arith, k .records-of .ensures, vertices-length first (s .args .table .now), s .pre .0 .sound .few)
 
 returns : tie.Need-returns
 returns c =
-    let k = c .before in
-    let i = k .before in
+    let i = c .before in
     let w = i .before .before .before .before in
     let l = w .before .before .before in
-    let s = l .before .before .before in
+    let k = l .before in
+    let s = k .before .before .before in
     let found = rw (l .leader-of .ensures) at (i .certified-in .ensures) in
     through-told (s .pre .0 .sound .accepted) (s .args .round) (s .pre .1 .0) (s .args .a) (i .certified-in .result) found (k .records-of .result) (k .records-of .ensures ∙ sym (vertices-length first (s .args .table .now))) (c .cell-of .result) (c .cell-of .ensures) _ _ _ _ (w .walk-to .ensures .0) (w .walk-to .ensures .1 .0) (w .walk-to .ensures .1 .1 .1)
 
@@ -45,11 +46,11 @@ pub through-anchor-spec : {M : Type 1} → statement M
 through-anchor-spec =
     tie.close
     (tie.spec
+    (λ c κs. search needs)
     leader-of-requires
     (λ c. search needs) (λ c κs. search needs)
     walk-to-requires
     certified-in-requires
-    (λ c κs. search needs)
     cell-of-requires
     (λ c. search needs)
     returns)

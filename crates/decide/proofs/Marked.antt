@@ -18,102 +18,120 @@ use Rattle.rules.specs.declared.Name.{Name}
 use Rattle.rules.specs.declared.Vertex.{Vertex}
 use Rattle.rules.specs.Record.{at, nameOf, entry, entryName, find}
 use Rattle.rules.specs.Support.{references}
-use Rattle.rules.specs.History.{Reaches, itself, onward, history}
+use Rattle.rules.specs.History.{Reaches, itself, onward, StepRule, history}
 use Rattle.rules.proofs.Accepted.{Accepted, find-at, vertexOf-at, position-unique, author-low, round-pos, entry-vertex}
 use Rattle.rules.proofs.Support.{references-is, is-references, references-entry, references-earlier}
-use Rattle.rules.proofs.History.{Follows, ReferencesIn, reached-at, history-length, history-is}
+use Rattle.rules.proofs.History.{Downward, Follows, ReferencesIn, reached-at, history-length, history-sound, history-complete}
 use Rattle.decide.specs.Sweep.{markedFrom}
+
+-- ---- a step of histories
+
+-- The step goes to earlier records, and is a relation of names.
+pub record Walks (step : StepRule) (vs : List Vertex) : Type 1 where
+  pub Step : Name → Name → Type 0
+  pub down : Downward step vs
+  pub follows : Follows step vs Step
+
+-- the step of the box: a reference
+pub by-references : {n : ℕ} {vs : List Vertex} → Accepted n vs → Walks references vs
+by-references {vs = vs} A = record {
+  Step = ReferencesIn vs;
+  down = references-earlier A;
+  follows = record { to = λ q y l e. rw (vertexOf-at A q l) e; fro = λ q y l e. rw (vertexOf-at A q l) at e };
+}
 
 -- ---- the history, from one position to the next
 
-module _ {n : ℕ} {vs : List Vertex} (A : Accepted n vs) where
-  -- a reference is to an earlier position
-  pub refers-down : (j q : ℕ) → j < length vs → q < length vs → references (at vs j) (nameOf (at vs q)) ≡ true → q < j
-  refers-down j q lj lq e = omega (arith, references-earlier A j (nameOf (at vs q)) lj e, find-at A q lq)
-
-  follows : Follows references vs (ReferencesIn vs)
-  follows = record { to = λ q y l e. rw (vertexOf-at A q l) e; fro = λ q y l e. rw (vertexOf-at A q l) at e }
+module _ {n : ℕ} {vs : List Vertex} {step : StepRule} (A : Accepted n vs) (W : Walks step vs) where
+  -- a step is to an earlier position
+  pub step-down : (j q : ℕ) → j < length vs → q < length vs → step (at vs j) (nameOf (at vs q)) ≡ true → q < j
+  step-down j q lj lq e = omega (arith, W .down j (nameOf (at vs q)) lj e, find-at A q lq)
 
   module _ (a : ℕ) (l : a < length vs) where
     abbrev H : ℕ → Bool
-    H q = getD (history references vs a) q false
+    H q = getD (history step vs a) q false
 
     abbrev steps : ℕ → ℕ → Bool
-    steps j q = references (at vs j) (nameOf (at vs q))
+    steps j q = step (at vs j) (nameOf (at vs q))
+
+    reached : (q : ℕ) → q ≤ a → H q ≡ true → Reaches (W .Step) (nameOf (at vs a)) (nameOf (at vs q))
+    reached q h e = history-sound A (W .down) (W .follows) a q l h e
+
+    belongs : (q : ℕ) → q ≤ a → Reaches (W .Step) (nameOf (at vs a)) (nameOf (at vs q)) → H q ≡ true
+    belongs q h r = history-complete A (W .down) (W .follows) a q l h r
 
     pub history-self : H a ≡ true
-    history-self = history-is A a a l (le-refl a) .1 itself
+    history-self = belongs a (le-refl a) itself
 
-    pub history-size : length (history references vs a) ≡ suc a
-    history-size = history-length A (references-earlier A) follows a l
+    pub history-size : length (history step vs a) ≡ suc a
+    history-size = history-length A (W .down) (W .follows) a l
 
     pub history-past : (q : ℕ) → a < q → H q ≡ false
-    history-past q h = List·getD-eq-default (history references vs a) false (omega (arith, history-size))
+    history-past q h = List·getD-eq-default (history step vs a) false (omega (arith, history-size))
 
     pub history-low : (q : ℕ) → H q ≡ true → q ≤ a
     history-low q e = by-test (ltb a q) (λ t. absurd (not-both e (history-past q (ltb-true a q t)))) (λ t. ltb-false a q t)
 
-    -- what a member of the history references is a member
+    -- what a member of the history steps to is a member
     pub history-step : (j q : ℕ) → q < length vs → H j ≡ true → steps j q ≡ true → H q ≡ true
     history-step j q lq h e =
         let lj : j ≤ a = history-low j h in
-        let d : q < j = refers-down j q (omega arith) lq e in
-        let r : ReferencesIn vs (nameOf (at vs j)) (nameOf (at vs q)) = rw (vertexOf-at A j (omega arith)) e in
-        history-is A a q l (omega arith) .1 (onward (history-is A a j l lj .0 h) r)
+        let d : q < j = step-down j q (omega arith) lq e in
+        belongs q (omega arith) (onward (reached j lj h) (W .follows .to j (nameOf (at vs q)) (omega arith) e))
 
-    -- a member below the anchor is referenced by a member above it
-    last-step : (q : ℕ) → q < a → (y : Name) → Reaches (ReferencesIn vs) (nameOf (at vs a)) y → nameOf (at vs q) ≡ y
+    -- a member below the anchor is stepped to by a member above it
+    last-step : (q : ℕ) → q < a → (y : Name) → Reaches (W .Step) (nameOf (at vs a)) y → nameOf (at vs q) ≡ y
         → (j : ℕ) × (q < j) × (j ≤ a) × (H j ≡ true) × (steps j q ≡ true)
     last-step q lq y itself e = absurd (omega (arith, position-unique A q a (omega arith) l e))
-    last-step q lq y (onward {x = x} h k) e = go (reached-at A (references-earlier A) follows a l x h)
+    last-step q lq y (onward {x = x} h k) e = above (reached-at A (W .down) (W .follows) a l x h)
       where
-        go : (j : ℕ) × (j ≤ a) × (nameOf (at vs j) ≡ x) → (j : ℕ) × (q < j) × (j ≤ a) × (H j ≡ true) × (steps j q ≡ true)
-        go (j, lj, ex) =
-            let r : references (at vs j) y ≡ true = rw (← ex, vertexOf-at A j (omega arith)) at k in
-            let s : steps j q ≡ true = rw e r in
-            (j, refers-down j q (omega arith) (omega arith) s, lj, history-is A a j l lj .1 (rw ex h), s)
+        above : (j : ℕ) × (j ≤ a) × (nameOf (at vs j) ≡ x) → (j : ℕ) × (q < j) × (j ≤ a) × (H j ≡ true) × (steps j q ≡ true)
+        above (j, lj, ex) =
+            let r : step (at vs j) y ≡ true = W .follows .fro j y (omega arith) (subst (λ z. W .Step z y) (sym ex) k) in
+            let s : steps j q ≡ true = subst (λ z. step (at vs j) z ≡ true) (sym e) r in
+            (j, step-down j q (omega arith) (omega arith) s, lj, belongs j lj (subst (Reaches (W .Step) (nameOf (at vs a))) (sym ex) h), s)
 
     pub history-from : (q : ℕ) → q < a → H q ≡ true → (j : ℕ) × (q < j) × (j ≤ a) × (H j ≡ true) × (steps j q ≡ true)
-    history-from q lq e = last-step q lq (nameOf (at vs q)) (history-is A a q l (omega arith) .0 e) refl
+    history-from q lq e = last-step q lq (nameOf (at vs q)) (reached q (omega arith) e) refl
 
     -- ---- as far as the positions from p on tell
 
-    pub marked-is : (p q : ℕ) → markedFrom vs a p q ≡ true → (q ≡ a) ⊎ ((j : ℕ) × (p ≤ j) × (H j ≡ true) × (steps j q ≡ true))
+    pub marked-is : (p q : ℕ) → markedFrom step vs a p q ≡ true → (q ≡ a) ⊎ ((j : ℕ) × (p ≤ j) × (H j ≡ true) × (steps j q ≡ true))
     unfolding markedFrom
-    marked-is p q e = ⊎-elim (λ h. inl (eqb-true q a h)) (λ h. inr (go (any-witness _ (length vs) h))) (or-cases _ _ e)
+    marked-is p q e = ⊎-elim (λ h. inl (eqb-true q a h)) (λ h. inr (teller (any-witness _ (length vs) h))) (or-cases _ _ e)
       where
-        go : (j : ℕ) × (j < length vs) × (leb p j and H j and steps j q ≡ true) → (j : ℕ) × (p ≤ j) × (H j ≡ true) × (steps j q ≡ true)
-        go (j, lj, t) = let r = and-right _ _ t in (j, leb-true p j (and-left _ _ t), and-left _ _ r, and-right _ _ r)
+        teller : (j : ℕ) × (j < length vs) × (leb p j and H j and steps j q ≡ true) → (j : ℕ) × (p ≤ j) × (H j ≡ true) × (steps j q ≡ true)
+        teller (j, lj, t) = let r = and-right _ _ t in (j, leb-true p j (and-left _ _ t), and-left _ _ r, and-right _ _ r)
 
-    pub marked-self : (p q : ℕ) → q ≡ a → markedFrom vs a p q ≡ true
+    pub marked-self : (p q : ℕ) → q ≡ a → markedFrom step vs a p q ≡ true
     unfolding markedFrom
     marked-self p q e = or-left _ _ (eq-eqb q a e)
 
-    pub marked-by : (p q j : ℕ) → p ≤ j → H j ≡ true → steps j q ≡ true → markedFrom vs a p q ≡ true
+    pub marked-by : (p q j : ℕ) → p ≤ j → H j ≡ true → steps j q ≡ true → markedFrom step vs a p q ≡ true
     unfolding markedFrom
     marked-by p q j h t s =
         let lj : j ≤ a = history-low j t in
         or-right _ _ (any-intro _ (length vs) j (omega arith) (and-true _ _ (le-leb p j h) (and-true _ _ t s)))
 
     -- with all from p on looked at it is the whole history of a position that nothing below p references
-    pub marked-far : (p q : ℕ) → q < length vs → ((j : ℕ) → j ≤ a → q < j → steps j q ≡ true → p ≤ j) → markedFrom vs a p q ≡ H q
+    pub marked-far : (p q : ℕ) → q < length vs → ((j : ℕ) → j ≤ a → q < j → steps j q ≡ true → p ≤ j) → markedFrom step vs a p q ≡ H q
     marked-far p q lq h = both-ways _ _ (λ e. to (marked-is p q e)) from
       where
         to : (q ≡ a) ⊎ ((j : ℕ) × (p ≤ j) × (H j ≡ true) × (steps j q ≡ true)) → H q ≡ true
         to (inl e) = rw e history-self
         to (inr (j, lj, t, s)) = history-step j q lq t s
 
-        from : H q ≡ true → markedFrom vs a p q ≡ true
+        from : H q ≡ true → markedFrom step vs a p q ≡ true
         from e =
             ⊎-elim (λ k. marked-self p q k) (λ k. let w = history-from q k e in marked-by p q (w .0) (h (w .0) (w .2) (w .1) (w .4)) (w .3) (w .4))
             (eq-or-lt-of-le (history-low q e))
 
     -- so it is of those from p on, and of the one before
-    pub marked-history : (p q : ℕ) → q < length vs → p ≤ suc q → markedFrom vs a p q ≡ H q
+    pub marked-history : (p q : ℕ) → q < length vs → p ≤ suc q → markedFrom step vs a p q ≡ H q
     marked-history p q lq h = marked-far p q lq (λ j _ l _. omega arith)
 
     -- nothing above the anchor is looked at: the anchor alone
-    pub marked-start : (q : ℕ) → markedFrom vs a (suc a) q ≡ eqb q a
+    pub marked-start : (q : ℕ) → markedFrom step vs a (suc a) q ≡ eqb q a
     marked-start q = both-ways _ _ (λ e. to (marked-is (suc a) q e)) (λ e. marked-self (suc a) q (eqb-true q a e))
       where
         to : (q ≡ a) ⊎ ((j : ℕ) × (suc a ≤ j) × (H j ≡ true) × (steps j q ≡ true)) → eqb q a ≡ true
@@ -121,25 +139,25 @@ module _ {n : ℕ} {vs : List Vertex} (A : Accepted n vs) where
         to (inr (j, lj, t, s)) = absurd (not-both t (history-past j lj))
 
     -- one position more: what the vertex there references, if it belongs
-    pub marked-next : (p q : ℕ) → H p ≡ true → markedFrom vs a p q ≡ markedFrom vs a (suc p) q or steps p q
+    pub marked-next : (p q : ℕ) → H p ≡ true → markedFrom step vs a p q ≡ markedFrom step vs a (suc p) q or steps p q
     marked-next p q t = both-ways _ _ (λ e. to (marked-is p q e)) (λ e. ⊎-elim (λ k. up (marked-is (suc p) q k)) (λ k. marked-by p q p (le-refl p) t k) (or-cases _ _ e))
       where
-        to : (q ≡ a) ⊎ ((j : ℕ) × (p ≤ j) × (H j ≡ true) × (steps j q ≡ true)) → markedFrom vs a (suc p) q or steps p q ≡ true
+        to : (q ≡ a) ⊎ ((j : ℕ) × (p ≤ j) × (H j ≡ true) × (steps j q ≡ true)) → markedFrom step vs a (suc p) q or steps p q ≡ true
         to (inl e) = or-left _ _ (marked-self (suc p) q e)
         to (inr (j, lj, h, s)) = ⊎-elim (λ k. or-right _ _ (rw k s)) (λ k. or-left _ _ (marked-by (suc p) q j k h s)) (eq-or-lt-of-le lj)
 
-        up : (q ≡ a) ⊎ ((j : ℕ) × (suc p ≤ j) × (H j ≡ true) × (steps j q ≡ true)) → markedFrom vs a p q ≡ true
+        up : (q ≡ a) ⊎ ((j : ℕ) × (suc p ≤ j) × (H j ≡ true) × (steps j q ≡ true)) → markedFrom step vs a p q ≡ true
         up (inl e) = marked-self p q e
         up (inr (j, lj, h, s)) = marked-by p q j (omega arith) h s
 
-    pub marked-same : (p q : ℕ) → H p ≡ false → markedFrom vs a p q ≡ markedFrom vs a (suc p) q
+    pub marked-same : (p q : ℕ) → H p ≡ false → markedFrom step vs a p q ≡ markedFrom step vs a (suc p) q
     marked-same p q f = both-ways _ _ (λ e. to (marked-is p q e)) (λ e. up (marked-is (suc p) q e))
       where
-        to : (q ≡ a) ⊎ ((j : ℕ) × (p ≤ j) × (H j ≡ true) × (steps j q ≡ true)) → markedFrom vs a (suc p) q ≡ true
+        to : (q ≡ a) ⊎ ((j : ℕ) × (p ≤ j) × (H j ≡ true) × (steps j q ≡ true)) → markedFrom step vs a (suc p) q ≡ true
         to (inl e) = marked-self (suc p) q e
         to (inr (j, lj, h, s)) = ⊎-elim (λ k. absurd (not-both (rw k h) f)) (λ k. marked-by (suc p) q j k h s) (eq-or-lt-of-le lj)
 
-        up : (q ≡ a) ⊎ ((j : ℕ) × (suc p ≤ j) × (H j ≡ true) × (steps j q ≡ true)) → markedFrom vs a p q ≡ true
+        up : (q ≡ a) ⊎ ((j : ℕ) × (suc p ≤ j) × (H j ≡ true) × (steps j q ≡ true)) → markedFrom step vs a p q ≡ true
         up (inl e) = marked-self p q e
         up (inr (j, lj, h, s)) = marked-by p q j (omega arith) h s
 

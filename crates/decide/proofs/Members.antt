@@ -27,7 +27,7 @@ use Rattle.decide.specs.Work.{historyAt}
 use Rattle.decide.specs.Sweep.{Swept}
 use Rattle.decide.specs.Cells.{firstIn}
 use Rattle.decide.proofs.Ranges.{InRound, start-bound, in-round, round-in}
-use Rattle.decide.proofs.Marked.{history-size, history-low, marked-far}
+use Rattle.decide.proofs.Marked.{by-references, history-size, history-low, marked-far}
 
 -- ---- the first of those that pass one test or another
 
@@ -128,17 +128,17 @@ module _ {n : ℕ} {vs : List Vertex} (A : Accepted n vs) (round leader a : ℕ)
   told-end = first-same _ _ (length vs) (λ p l. both-ways _ _ (λ e. and-true _ _ (and-left _ _ e) (to p (any-witness _ _ (and-right _ _ e)))) (λ e. and-true _ _ (and-left _ _ e) (from p (and-left _ _ e) (any-witness _ _ (and-right _ _ e)))))
     where
       size : length h ≡ suc a
-      size = history-size A a la
+      size = history-size A (by-references A) a la
 
       to : (p : ℕ) → (q : ℕ) × (q < startOf vs (round + 3) 0) × (tells p q ≡ true) → anyTo (tells p) (length h) ≡ true
-      to p (q, lq, e) = any-intro _ (length h) q (omega (arith, size, history-low A a la q (and-left _ _ e))) e
+      to p (q, lq, e) = any-intro _ (length h) q (omega (arith, size, history-low A (by-references A) a la q (and-left _ _ e))) e
 
       from : (p : ℕ) → slot p ≡ true → (q : ℕ) × (q < length h) × (tells p q ≡ true) → anyTo (tells p) (startOf vs (round + 3) 0) ≡ true
       from p s (q, lq, e) = any-intro _ _ q (under q (record { within = omega (arith, size); round = two-up p q s e })) e
 
   -- what the bytes tell of a vertex two rounds up, if all from three rounds up are looked at
-  pub told-byte : (done : ℕ) (m : List ℕ) → Swept vs a done m → done ≤ startOf vs (round + 3) 0 → (q : ℕ) → InRound vs (round + 2) q → historyAt m q ≡ bit (getD h q false)
-  told-byte done m S low q r = S .told q (r .within) ∙ ap bit (marked-far A a la done q (r .within) above)
+  pub told-byte : (done : ℕ) (m : List ℕ) → Swept references vs a done m → done ≤ startOf vs (round + 3) 0 → (q : ℕ) → InRound vs (round + 2) q → historyAt m q ≡ bit (getD h q false)
+  told-byte done m S low q r = S .told q (r .within) ∙ ap bit (marked-far A (by-references A) a la done q (r .within) above)
     where
       above : (j : ℕ) → j ≤ a → q < j → references (at vs j) (nameOf (at vs q)) ≡ true → done ≤ j
       above j lj lq e =

@@ -15,6 +15,7 @@ use Rattle.folds.proofs.Tests.{by-test, failed, and-left, and-right, and-true, 
 use Rattle.folds.proofs.Laws.{first-is, first-by}
 use Rattle.rules.specs.declared.Vertex.{Vertex}
 use Rattle.rules.specs.Record.{at, first, vertices}
+use Rattle.rules.specs.Support.{references}
 use Rattle.rules.specs.Authors.{oneLeader}
 use Rattle.rules.specs.Decision.{Decision, undecided, committed, cell}
 use Rattle.rules.specs.Decide.{boxSetting, highest, anchor, throughAnchor, indirect, decisions, decisionAt}
@@ -165,13 +166,13 @@ module _ {n : ℕ} {t : List ℕ} {round : ℕ} {cells : List ℕ} {a p : ℕ} {
   at-top : k ≡ 1 + stopAt cells (round + 2) (highest (vertices first t))
   at-top = rw is-top at stops
 
-  left-open : last ≡ undecided → Told (vertices first t) (indirect (boxSetting n) n (vertices first t) (round - 1) last) work 0 a p work
+  left-open : last ≡ undecided → Told references (vertices first t) (indirect (boxSetting n) n (vertices first t) (round - 1) last) work 0 a p work
   left-open e = record { same-length = refl; in-cell = indirect-open n (vertices first t) (round - 1) _ e; walked = I .walked }
 
-  pub told-past : up-to < k → Told (vertices first t) (indirect (boxSetting n) n (vertices first t) (round - 1) last) work 0 a p work
+  pub told-past : up-to < k → Told references (vertices first t) (indirect (boxSetting n) n (vertices first t) (round - 1) last) work 0 a p work
   told-past h = left-open (anchor-past passed round (I .from-one) cells (I .above) k at-top (omega (arith, h, is-top)))
 
-  pub told-open : getD cells (k - 1) 0 ≡ 0 → Told (vertices first t) (indirect (boxSetting n) n (vertices first t) (round - 1) last) work 0 a p work
+  pub told-open : getD cells (k - 1) 0 ≡ 0 → Told references (vertices first t) (indirect (boxSetting n) n (vertices first t) (round - 1) last) work 0 a p work
   told-open z = left-open (anchor-open passed round (I .from-one) cells (I .above) k at-top z)
 
   module _ (h : k ≤ up-to) (f : getD cells (k - 1) 0 ≢ 0) where
@@ -179,8 +180,8 @@ module _ {n : ℕ} {t : List ℕ} {round : ℕ} {cells : List ℕ} {a p : ℕ} {
     anchor-cell = anchor-found passed round (I .from-one) cells (I .above) k at-top (omega (arith, h, is-top)) f
 
     pub told-through : (c a′ p′ : ℕ) (new : List ℕ)
-        → Told (vertices first t) (throughAnchor (boxSetting n) n (vertices first t) (round - 1) (getD cells (k - 1) 0 - 2)) work c a′ p′ new
-        → Told (vertices first t) (indirect (boxSetting n) n (vertices first t) (round - 1) last) work c a′ p′ new
+        → Told references (vertices first t) (throughAnchor (boxSetting n) n (vertices first t) (round - 1) (getD cells (k - 1) 0 - 2)) work c a′ p′ new
+        → Told references (vertices first t) (indirect (boxSetting n) n (vertices first t) (round - 1) last) work c a′ p′ new
     told-through c a′ p′ new T = record {
       same-length = T .same-length;
       in-cell = T .in-cell ∙ indirect-through n (vertices first t) (round - 1) _ _ (anchor-cell .1 .found);

@@ -16,11 +16,11 @@ use Rattle.folds.proofs.Tests.{by-test, or-right, or-none}
 use Rattle.rules.specs.declared.Vertex.{Vertex}
 use Rattle.rules.specs.Record.{at, nameOf, entry, entryName, find}
 use Rattle.rules.specs.Support.{references}
-use Rattle.rules.specs.History.{history}
+use Rattle.rules.specs.History.{StepRule, history}
 use Rattle.rules.proofs.Accepted.{Accepted}
 use Rattle.decide.specs.Work.{historyAt, Retagged}
 use Rattle.decide.specs.Sweep.{markedFrom, Swept}
-use Rattle.decide.proofs.Marked.{marked-history, marked-start, marked-next, marked-same, namedTo, named-none, named-all, named-same, named-next}
+use Rattle.decide.proofs.Marked.{Walks, marked-history, marked-start, marked-next, marked-same, namedTo, named-none, named-all, named-same, named-next}
 
 -- ---- the bytes that tell of the history
 
@@ -93,45 +93,45 @@ module _ {n : ℕ} {vs : List Vertex} (A : Accepted n vs) (p : ℕ) (l : p < len
       other : eqb q j ≡ false → historyAt (set m j b) q ≡ bit (eqb (historyAt old q) 1 or namedTo vs p (i + 1) q)
       other t = rw (getD-set-other m j q b 0 (eqb-false q j t), next, t, or-none (namedTo vs p i q)) (M q lq)
 
-module _ {n : ℕ} {vs : List Vertex} (A : Accepted n vs) (a : ℕ) where
-  pub swept-start : (m : List ℕ) → a < length vs → ((q : ℕ) → q < length vs → historyAt m q ≡ bit (eqb q a)) → Swept vs a (suc a) m
-  swept-start m l h = record { within = l; low = le-refl (suc a); told = λ q lq. h q lq ∙ ap bit (sym (marked-start A a l q)) }
+module _ {n : ℕ} {vs : List Vertex} {step : StepRule} (A : Accepted n vs) (W : Walks step vs) (a : ℕ) where
+  pub swept-start : (m : List ℕ) → a < length vs → ((q : ℕ) → q < length vs → historyAt m q ≡ bit (eqb q a)) → Swept step vs a (suc a) m
+  swept-start m l h = record { within = l; low = le-refl (suc a); told = λ q lq. h q lq ∙ ap bit (sym (marked-start A W a l q)) }
 
   -- of the positions from p on, and the one before, they tell the whole history
-  pub swept-history : (p : ℕ) (m : List ℕ) → Swept vs a p m → (q : ℕ) → q < length vs → p ≤ suc q → historyAt m q ≡ bit (getD (history references vs a) q false)
-  swept-history p m S q lq h = S .told q lq ∙ ap bit (marked-history A a (S .within) p q lq h)
+  pub swept-history : (p : ℕ) (m : List ℕ) → Swept step vs a p m → (q : ℕ) → q < length vs → p ≤ suc q → historyAt m q ≡ bit (getD (history step vs a) q false)
+  swept-history p m S q lq h = S .told q lq ∙ ap bit (marked-history A W a (S .within) p q lq h)
 
-  module _ (p : ℕ) (m : List ℕ) (S : Swept vs a (suc p) m) where
+  module _ (p : ℕ) (m : List ℕ) (S : Swept step vs a (suc p) m) where
     -- the vertex at p does not belong
-    pub swept-same : getD m p 0 < 128 → Swept vs a p m
+    pub swept-same : getD m p 0 < 128 → Swept step vs a p m
     swept-same h = record {
       within = S .within;
       low = omega (arith, S .low);
-      told = λ q lq. S .told q lq ∙ ap bit (sym (marked-same A a (S .within) p q out));
+      told = λ q lq. S .told q lq ∙ ap bit (sym (marked-same A W a (S .within) p q out));
     }
       where
-        out : getD (history references vs a) p false ≡ false
+        out : getD (history step vs a) p false ≡ false
         out = bit-no _ (sym (swept-history (suc p) m S p (omega (arith, S .low, S .within)) (le-refl (suc p))) ∙ omega arith)
 
-    -- it does, and what it references is marked too
+    -- it does, and what it steps to is marked too
     pub swept-next : (m′ : List ℕ) → 128 ≤ getD m p 0
-        → ((q : ℕ) → q < length vs → historyAt m′ q ≡ bit (eqb (historyAt m q) 1 or references (at vs p) (nameOf (at vs q))))
-        → Swept vs a p m′
+        → ((q : ℕ) → q < length vs → historyAt m′ q ≡ bit (eqb (historyAt m q) 1 or step (at vs p) (nameOf (at vs q))))
+        → Swept step vs a p m′
     swept-next m′ h k = record {
       within = S .within;
       low = omega (arith, S .low);
-      told = λ q lq. k q lq ∙ ap bit (ap (λ b. b or references (at vs p) (nameOf (at vs q))) (before q lq) ∙ sym (marked-next A a (S .within) p q in-it));
+      told = λ q lq. k q lq ∙ ap bit (ap (λ b. b or step (at vs p) (nameOf (at vs q))) (before q lq) ∙ sym (marked-next A W a (S .within) p q in-it));
     }
       where
-        is : historyAt m p ≡ bit (getD (history references vs a) p false)
+        is : historyAt m p ≡ bit (getD (history step vs a) p false)
         is = swept-history (suc p) m S p (omega (arith, S .low, S .within)) (le-refl (suc p))
 
-        in-it : getD (history references vs a) p false ≡ true
+        in-it : getD (history step vs a) p false ≡ true
         in-it = bit-yes _ (λ z. omega (arith, is ∙ z))
 
-        before : (q : ℕ) → q < length vs → eqb (historyAt m q) 1 ≡ markedFrom vs a (suc p) q
+        before : (q : ℕ) → q < length vs → eqb (historyAt m q) 1 ≡ markedFrom step vs a (suc p) q
         before q lq = ap (λ x. eqb x 1) (S .told q lq) ∙ bit-one _
 
   -- other tags are the same history
-  pub swept-retagged : (p : ℕ) (m m′ : List ℕ) → Retagged m m′ → Swept vs a p m → Swept vs a p m′
+  pub swept-retagged : (p : ℕ) (m m′ : List ℕ) → Retagged m m′ → Swept step vs a p m → Swept step vs a p m′
   swept-retagged p m m′ r S = record { within = S .within; low = S .low; told = λ q lq. r .history-kept q ∙ S .told q lq }

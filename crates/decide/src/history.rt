@@ -55,7 +55,7 @@ fn start(n: u8, table: &[u8], a: usize, work: &mut [u8])
     requires { ⌜ Ready first n (now table) (now work) ⌝ }
     requires { ⌜ a < recordsOf (now table) ⌝ }
     ensures { λ r. ⌜ length (now (work .exit)) ≡ length (now (work .entry)) ⌝ }
-    ensures { λ r. ⌜ Swept (verticesOf (now (table .entry))) a (suc a) (now (work .exit)) ⌝ }
+    ensures { λ r. ⌜ Swept references (verticesOf (now (table .entry))) a (suc a) (now (work .exit)) ⌝ }
 {
     forget(work, record::records_of(table));
     work[a] = with_history(work[a]);
@@ -84,9 +84,9 @@ fn mark_refs(n: u8, table: &[u8], p: usize, work: &mut [u8])
 fn sweep(n: u8, table: &[u8], a: usize, from: usize, to: usize, work: &mut [u8])
     requires { ⌜ Ready first n (now table) (now work) ⌝ }
     requires { ⌜ to ≤ from ⌝ }
-    requires { ⌜ Swept (verticesOf (now table)) a from (now work) ⌝ }
+    requires { ⌜ Swept references (verticesOf (now table)) a from (now work) ⌝ }
     ensures { λ r. ⌜ length (now (work .exit)) ≡ length (now (work .entry)) ⌝ }
-    ensures { λ r. ⌜ Swept (verticesOf (now (table .entry))) a to (now (work .exit)) ⌝ }
+    ensures { λ r. ⌜ Swept references (verticesOf (now (table .entry))) a to (now (work .exit)) ⌝ }
 {
     let mut p = from;
     while to < p {
@@ -101,9 +101,9 @@ fn sweep(n: u8, table: &[u8], a: usize, from: usize, to: usize, work: &mut [u8])
 fn take_up(n: u8, table: &[u8], a: usize, walk: Walk, work: &mut [u8]) -> usize
     requires { ⌜ Ready first n (now table) (now work) ⌝ }
     requires { ⌜ a < recordsOf (now table) ⌝ }
-    requires { ⌜ Walked (verticesOf (now table)) (walk .anchor) (walk .done) (now work) ⌝ }
+    requires { ⌜ Walked references (verticesOf (now table)) (walk .anchor) (walk .done) (now work) ⌝ }
     ensures { λ r. ⌜ length (now (work .exit)) ≡ length (now (work .entry)) ⌝ }
-    ensures { λ r. ⌜ Swept (verticesOf (now (table .entry))) a r (now (work .exit)) ⌝ }
+    ensures { λ r. ⌜ Swept references (verticesOf (now (table .entry))) a r (now (work .exit)) ⌝ }
 {
     if walk.anchor == a {
         return walk.done;
@@ -117,11 +117,11 @@ pub(crate) fn walk_to(n: u8, table: &[u8], a: usize, to: usize, walk: Walk, work
     requires { ⌜ Ready first n (now table) (now work) ⌝ }
     requires { ⌜ a < recordsOf (now table) ⌝ }
     requires { ⌜ to ≤ a ⌝ }
-    requires { ⌜ Walked (verticesOf (now table)) (walk .anchor) (walk .done) (now work) ⌝ }
+    requires { ⌜ Walked references (verticesOf (now table)) (walk .anchor) (walk .done) (now work) ⌝ }
     ensures { λ r. ⌜ length (now (work .exit)) ≡ length (now (work .entry)) ⌝ }
     ensures { λ r. ⌜ r .anchor ≡ a ⌝ }
     ensures { λ r. ⌜ r .done ≤ to ⌝ }
-    ensures { λ r. ⌜ Swept (verticesOf (now (table .entry))) a (r .done) (now (work .exit)) ⌝ }
+    ensures { λ r. ⌜ Swept references (verticesOf (now (table .entry))) a (r .done) (now (work .exit)) ⌝ }
 {
     let from = take_up(n, table, a, walk, work);
     if from <= to {
@@ -149,7 +149,7 @@ pub(crate) fn certified_in(
 ) -> usize
     requires { ⌜ Ready first n (now table) (now work) ⌝ }
     requires { ⌜ round ≤ lastRound ⌝ }
-    requires { ⌜ Swept (verticesOf (now table)) a done (now work) ⌝ }
+    requires { ⌜ Swept references (verticesOf (now table)) a done (now work) ⌝ }
     requires { ⌜ done ≤ startOf (verticesOf (now table)) (round + 3) 0 ⌝ }
     ensures { λ r. ⌜ r ≡ firstIn (verticesOf (now (table .entry))) round leader (certifiedIn n (verticesOf (now (table .entry))) (history references (verticesOf (now (table .entry))) a)) ⌝ }
 {

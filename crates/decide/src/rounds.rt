@@ -8,6 +8,7 @@ ghost use lib.ListN.{length, drop};
 ghost use Rattle.rules.specs.Authors.{leader};
 ghost use Rattle.rules.specs.Record.{first};
 ghost use Rattle.rules.specs.Decision.{cell};
+ghost use Rattle.rules.specs.Support.{references};
 ghost use Rattle.rules.specs.Decide.{boxSetting, highest, anchor, indirect, decisions, decisionAt, throughAnchor};
 ghost use Rattle.rules.specs.Settlement.{writtenOver};
 ghost use Rattle.decide.specs.Range.{startOf};
@@ -74,8 +75,8 @@ fn through_anchor(n: u8, table: &[u8], round: u32, a: usize, walk: Walk, work: &
     requires { ⌜ round ≤ lastRound ⌝ }
     requires { ⌜ a < recordsOf (now table) ⌝ }
     requires { ⌜ startOf (verticesOf (now table)) (round + 3) 0 ≤ a ⌝ }
-    requires { ⌜ Walked (verticesOf (now table)) (walk .anchor) (walk .done) (now work) ⌝ }
-    ensures { λ r. ⌜ Told (verticesOf (now (table .entry))) (throughAnchor (boxSetting n) n (verticesOf (now (table .entry))) (round - 1) a) (now (work .entry)) (r .cell) (r .walk .anchor) (r .walk .done) (now (work .exit)) ⌝ }
+    requires { ⌜ Walked references (verticesOf (now table)) (walk .anchor) (walk .done) (now work) ⌝ }
+    ensures { λ r. ⌜ Told references (verticesOf (now (table .entry))) (throughAnchor (boxSetting n) n (verticesOf (now (table .entry))) (round - 1) a) (now (work .entry)) (r .cell) (r .walk .anchor) (r .walk .done) (now (work .exit)) ⌝ }
 {
     let k = record::records_of(table);
     let leader = leader_of(n, round);
@@ -91,7 +92,7 @@ fn through_anchor(n: u8, table: &[u8], round: u32, a: usize, walk: Walk, work: &
 // One round by the indirect rule.
 fn by_anchor(n: u8, table: &[u8], round: u32, cells: &[u32], walk: Walk, work: &mut [u8]) -> Round
     requires { ⌜ InHand (boxSetting n) first n (now table) round (now cells) (walk .anchor) (walk .done) (now work) ⌝ }
-    ensures { λ r. ⌜ Told (verticesOf (now (table .entry))) (indirect (boxSetting n) n (verticesOf (now (table .entry))) (round - 1) (anchor (drop (round + 2) (decisions (boxSetting n) n (verticesOf (now (table .entry))))))) (now (work .entry)) (r .cell) (r .walk .anchor) (r .walk .done) (now (work .exit)) ⌝ }
+    ensures { λ r. ⌜ Told references (verticesOf (now (table .entry))) (indirect (boxSetting n) n (verticesOf (now (table .entry))) (round - 1) (anchor (drop (round + 2) (decisions (boxSetting n) n (verticesOf (now (table .entry))))))) (now (work .entry)) (r .cell) (r .walk .anchor) (r .walk .done) (now (work .exit)) ⌝ }
 {
     let top = highest_of(table);
     let t = stop_at(cells, round, top);
@@ -108,7 +109,7 @@ fn by_anchor(n: u8, table: &[u8], round: u32, cells: &[u32], walk: Walk, work: &
 // One round: by the direct rules, and else by the indirect one.
 fn decide_one(n: u8, table: &[u8], round: u32, cells: &[u32], walk: Walk, work: &mut [u8]) -> Round
     requires { ⌜ InHand (boxSetting n) first n (now table) round (now cells) (walk .anchor) (walk .done) (now work) ⌝ }
-    ensures { λ r. ⌜ Told (verticesOf (now (table .entry))) (decisionAt (decisions (boxSetting n) n (verticesOf (now (table .entry)))) (round - 1)) (now (work .entry)) (r .cell) (r .walk .anchor) (r .walk .done) (now (work .exit)) ⌝ }
+    ensures { λ r. ⌜ Told references (verticesOf (now (table .entry))) (decisionAt (decisions (boxSetting n) n (verticesOf (now (table .entry)))) (round - 1)) (now (work .entry)) (r .cell) (r .walk .anchor) (r .walk .done) (now (work .exit)) ⌝ }
 {
     let k = record::records_of(table);
     let leader = leader_of(n, round);

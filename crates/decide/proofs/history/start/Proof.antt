@@ -6,6 +6,7 @@ use native.Mathlib.Omega.{arith}
 use lib.ListN.{length, length-set}
 use Rattle.rules.specs.Record.{first, vertices}
 use Rattle.rules.proofs.Records.{vertices-length}
+use Rattle.decide.proofs.Marked.{by-references}
 use Rattle.decide.proofs.Sweeps.{start-alone, swept-start}
 use Rattle.decide.specs.Work.{historyAt}
 use borrow.Author.Needs.{needs}
@@ -25,7 +26,7 @@ returns c =
     let m = f .forget .last .0 in
     let within : s .args .a < length m = omega (arith, f .forget .ensures .0, s .pre .1, s .pre .0 .room) in
     let none : (q : ℕ) → q < length (vertices first t) → historyAt m q ≡ 0 = λ q l. f .forget .ensures .1 q (omega (arith, vertices-length first t, f .before .records-of .ensures)) in
-    (simp length-set (f .forget .ensures .0), swept-start (s .pre .0 .sound .accepted) (s .args .a) _ (s .pre .1) (start-alone m (length (vertices first t)) (s .args .a) (c .with-history .result) within (c .with-history .ensures) none))
+    (simp length-set (f .forget .ensures .0), swept-start (s .pre .0 .sound .accepted) (by-references (s .pre .0 .sound .accepted)) (s .args .a) _ (s .pre .1) (start-alone m (length (vertices first t)) (s .args .a) (c .with-history .result) within (c .with-history .ensures) none))
 
 pub start-spec : {M : Type 1} → statement M
 start-spec =

@@ -11,6 +11,7 @@ use Rattle.decide.specs.Cells.{Walked}
 use Rattle.decide.proofs.Passed.{ready-on}
 use Rattle.decide.proofs.InCells.{CellsFrom, cells-start, cells-next, cells-end}
 use native.Mathlib.Omega.{arith}
+use Rattle.rules.specs.Support.{references}
 use borrow.Author.Needs.{needs}
 use Rattle.decide.proofs.rounds.decide_all.Statement.{statement}
 use Rattle.decide.proofs.rounds.decide_all.Tie as tie
@@ -20,7 +21,7 @@ Inv-loop n table cells₀ work₀ walk₀ round₀ cells work walk round =
     (round ≤ highest (vertices first table))
     × CellsFrom n (vertices first table) round cells₀ cells
     × (length work ≡ length work₀)
-    × Walked (vertices first table) (walk .anchor) (walk .done) work
+    × Walked references (vertices first table) (walk .anchor) (walk .done) work
 
 abbrev μ-loop : tie.MeasureT-loop
 μ-loop n table cells₀ work₀ walk₀ round₀ cells work walk round = round

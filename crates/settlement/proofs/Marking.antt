@@ -15,6 +15,7 @@ use Rattle.folds.specs.Folds.{_and_, _or_, bytesOver}
 use Rattle.folds.proofs.Tests.{by-test, or-right}
 use Rattle.rules.specs.declared.Vertex.{Vertex}
 use Rattle.rules.specs.Record.{at, entry, entryName, find}
+use Rattle.rules.specs.Support.{references}
 use Rattle.rules.proofs.Accepted.{Accepted}
 use Rattle.settlement.specs.Write.{MarkedOne, MarkedMore}
 use Rattle.folds.proofs.Over.{or-last, over-at, over-same, over-set, over-none}
@@ -99,7 +100,7 @@ module _ {n : ℕ} {vs : List Vertex} (A : Accepted n vs) (p : ℕ) (l : p < len
             ∙ over-set (toldTo vs p i m) (length vs) m (toldTo vs p (i + 1) m) q _ lq value (λ j lj d. ap (λ x. cond (eqb (getD m j 0) 0 and x) 2 (getD m j 0)) (other j lj d))
 
     -- it is the last
-    pub more-end : n ≤ i → MarkedMore vs p low m lowest b
+    pub more-end : n ≤ i → MarkedMore references vs p low m lowest b
     more-end h = record {
       bytes = M .bytes ∙ over-same _ (length vs) m _ (λ q lq. ap (λ x. cond (eqb (getD m q 0) 0 and x) 2 (getD m q 0)) (named-all A p l i q h lq));
       lower = M .lower;

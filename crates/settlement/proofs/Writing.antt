@@ -17,12 +17,11 @@ use Rattle.folds.proofs.Tests.{by-test, not-both, failed, and-left, and-right, 
 use Rattle.folds.proofs.Laws.{count-yes, count-no, count-and, count-witness}
 use Rattle.folds.proofs.Lists.{filter-yes, filter-no, filter-length, length-tabulate}
 use Rattle.rules.specs.declared.Vertex.{Vertex}
-use Rattle.rules.specs.Support.{references}
-use Rattle.rules.specs.History.{history}
+use Rattle.rules.specs.History.{StepRule, history}
 use Rattle.rules.proofs.Accepted.{Accepted}
 use Rattle.settlement.specs.Write.{placesOver, written, due, byteOf, dueFrom, MarkedDown, fresh, Led}
 use Rattle.folds.proofs.Over.{over-at, over-length, over-same, over-over, over-next, over-keep, over-none}
-use Rattle.decide.proofs.Marked.{history-past, marked-history}
+use Rattle.decide.proofs.Marked.{Walks, history-past, marked-history}
 use Rattle.settlement.proofs.Places.{places-next, places-none}
 
 -- ---- what is due is written
@@ -137,17 +136,17 @@ done-bit true h = refl
 done-bit false true = refl
 done-bit false false = refl
 
-module _ {n : ℕ} {vs : List Vertex} (A : Accepted n vs) (a : ℕ) (l : a < length vs) (m : List ℕ) (room : length vs ≤ length m) (low : ℕ) (m₁ : List ℕ) (D : MarkedDown vs a m low m₁) where
+module _ {n : ℕ} {vs : List Vertex} {step : StepRule} (A : Accepted n vs) (W : Walks step vs) (a : ℕ) (l : a < length vs) (m : List ℕ) (room : length vs ≤ length m) (low : ℕ) (m₁ : List ℕ) (D : MarkedDown step vs a m low m₁) where
   abbrev belongs : ℕ → Bool
-  belongs q = getD (history references vs a) q false
+  belongs q = getD (history step vs a) q false
 
   marked-byte : (q : ℕ) → q < length vs → getD m₁ q 0 ≡ byteOf (written m q) (belongs q)
-  marked-byte q lq = ap (λ b. getD b q 0) (D .bytes) ∙ over-at (dueFrom vs a 0 m) (length vs) m q lq ∙ ap (byteOf (written m q)) (marked-history A a l 0 q lq (omega arith))
+  marked-byte q lq = ap (λ b. getD b q 0) (D .bytes) ∙ over-at (dueFrom step vs a 0 m) (length vs) m q lq ∙ ap (byteOf (written m q)) (marked-history A W a l 0 q lq (omega arith))
 
   due-is-fresh : (q : ℕ) → q < length vs → due m₁ q ≡ belongs q and not (written m q)
   due-is-fresh q lq = ap (λ x. eqb x 2) (marked-byte q lq) ∙ due-bit (written m q) (belongs q)
 
-  due-list : filterTo (due m₁) (a + 1) ≡ fresh vs a m
+  due-list : filterTo (due m₁) (a + 1) ≡ fresh step vs a m
   due-list = rw (add-one a) (filter-same _ _ (suc a) (λ q h. due-is-fresh q (omega arith)))
 
   pub marked-length : length m₁ ≡ length m
@@ -158,7 +157,7 @@ module _ {n : ℕ} {vs : List Vertex} (A : Accepted n vs) (a : ℕ) (l : a < len
   led-room count e =
       omega (arith, count-up (due m₁) (a + 1) (length vs) (omega arith), count-apart (written m) (due m₁) (length vs) (λ q lq w d. not-both w (not-true _ (and-right _ _ (sym (due-is-fresh q lq) ∙ d)))))
 
-  pub led : (count r : ℕ) (o o′ m₂ : List ℕ) → o′ ≡ placesOver count (filterTo (due m₁) (a + 1)) o → m₂ ≡ bytesOver (doneAt m₁) (a + 1) m₁ → r ≡ count + countTo (due m₁) (a + 1) → Led vs a count o m r o′ m₂
+  pub led : (count r : ℕ) (o o′ m₂ : List ℕ) → o′ ≡ placesOver count (filterTo (due m₁) (a + 1)) o → m₂ ≡ bytesOver (doneAt m₁) (a + 1) m₁ → r ≡ count + countTo (due m₁) (a + 1) → Led step vs a count o m r o′ m₂
   led count r o o′ m₂ p b e = record {
     places = p ∙ ap (λ w. placesOver count w o) due-list;
     bytes = b ∙ whole ∙ ap (bytesOver (doneAt m₁) (length vs)) (D .bytes) ∙ over-over _ (length vs) m _ ∙ over-same _ (length vs) m _ (λ q lq. ap (λ x. cond (eqb x 2) 1 x) (marked-byte q lq) ∙ done-bit (written m q) (belongs q));
@@ -166,7 +165,7 @@ module _ {n : ℕ} {vs : List Vertex} (A : Accepted n vs) (a : ℕ) (l : a < len
   }
     where
       past : (q : ℕ) → a + 1 ≤ q → q < length vs → doneAt m₁ q ≡ getD m₁ q 0
-      past q h lq = let none : due m₁ q ≡ false = failed _ (λ t. not-both (and-left _ _ (sym (due-is-fresh q lq) ∙ t)) (history-past A a l q (omega arith))) in rw none
+      past q h lq = let none : due m₁ q ≡ false = failed _ (λ t. not-both (and-left _ _ (sym (due-is-fresh q lq) ∙ t)) (history-past A W a l q (omega arith))) in rw none
 
       whole : bytesOver (doneAt m₁) (a + 1) m₁ ≡ bytesOver (doneAt m₁) (length vs) m₁
       whole =

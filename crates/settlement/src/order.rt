@@ -5,6 +5,7 @@ ghost use Prim.Native.Nat.{ℕ, _+_, _<_, _≤_};
 ghost use lib.ListN.{length, getD};
 ghost use Rattle.folds.specs.Folds.{countTo, filterTo};
 ghost use Rattle.rules.specs.Record.{first};
+ghost use Rattle.rules.specs.Support.{references};
 ghost use Rattle.rules.specs.Decide.{boxSetting, highest};
 ghost use Rattle.folds.specs.Folds.{bytesOver};
 ghost use Rattle.decide.specs.Ready.{verticesOf, recordsOf, Ready};
@@ -28,7 +29,7 @@ fn mark_one(q: usize, low: usize, taken: &mut [u8]) -> usize
 fn mark_more(n: u8, table: &[u8], p: usize, low: usize, taken: &mut [u8]) -> usize
     requires { ⌜ Ready first n (now table) (now taken) ⌝ }
     requires { ⌜ p < recordsOf (now table) ⌝ }
-    ensures { λ r. ⌜ MarkedMore (verticesOf (now (table .entry))) p low (now (taken .entry)) r (now (taken .exit)) ⌝ }
+    ensures { λ r. ⌜ MarkedMore references (verticesOf (now (table .entry))) p low (now (taken .entry)) r (now (taken .exit)) ⌝ }
 {
     let places = places_of(table, p);
     let k = n as usize;
@@ -48,8 +49,8 @@ fn mark_more(n: u8, table: &[u8], p: usize, low: usize, taken: &mut [u8]) -> usi
 fn mark_down(n: u8, table: &[u8], a: usize, taken: &mut [u8]) -> usize
     requires { ⌜ Ready first n (now table) (now taken) ⌝ }
     requires { ⌜ a < recordsOf (now table) ⌝ }
-    requires { ⌜ Told (verticesOf (now table)) (now taken) ⌝ }
-    ensures { λ r. ⌜ MarkedDown (verticesOf (now (table .entry))) a (now (taken .entry)) r (now (taken .exit)) ⌝ }
+    requires { ⌜ Told references (verticesOf (now table)) (now taken) ⌝ }
+    ensures { λ r. ⌜ MarkedDown references (verticesOf (now (table .entry))) a (now (taken .entry)) r (now (taken .exit)) ⌝ }
 {
     let mut low = mark_one(a, a, taken);
     let mut p = a + 1;
@@ -97,9 +98,9 @@ fn write_leader(
 ) -> usize
     requires { ⌜ Fits first n (now table) (now order) (now taken) ⌝ }
     requires { ⌜ a < recordsOf (now table) ⌝ }
-    requires { ⌜ Told (verticesOf (now table)) (now taken) ⌝ }
+    requires { ⌜ Told references (verticesOf (now table)) (now taken) ⌝ }
     requires { ⌜ count ≡ countTo (written (now taken)) (recordsOf (now table)) ⌝ }
-    ensures { λ r. ⌜ Led (verticesOf (now (table .entry))) a count (now (order .entry)) (now (taken .entry)) r (now (order .exit)) (now (taken .exit)) ⌝ }
+    ensures { λ r. ⌜ Led references (verticesOf (now (table .entry))) a count (now (order .entry)) (now (taken .entry)) r (now (order .exit)) (now (taken .exit)) ⌝ }
 {
     let low = mark_down(n, table, a, taken);
     write_marked(a, low, order, taken, count)

@@ -8,17 +8,19 @@ use lib.ListN.{length, getD}
 use Rattle.rules.specs.Record.{first, vertices}
 use Rattle.rules.proofs.Accepted.{accepted}
 use Rattle.folds.proofs.Over.{over-at}
-use Rattle.rules.specs.Decide.{highest}
+use Rattle.rules.specs.Decide.{boxSetting, highest}
+use Rattle.rules.proofs.Decide.{decisions-length}
 use Rattle.decide.proofs.Passed.{ready-on}
+use Rattle.decide.proofs.Marked.{by-references}
 use Rattle.settlement.specs.Write.{Fits}
-use Rattle.settlement.proofs.Ordered.{Upto, upto-start, upto-told, upto-count, upto-skip, upto-commit, upto-stop, upto-end, cell-undecided, cell-skipped, cell-leader}
+use Rattle.settlement.proofs.Ordered.{Upto, upto-start, upto-told, upto-count, upto-skip, upto-commit, upto-stop, upto-end, slot-low, cell-undecided, cell-skipped, cell-leader}
 use native.Mathlib.Omega.{arith}
 use borrow.Author.Needs.{needs}
 use Rattle.settlement.proofs.order.write_order.Statement.{statement}
 use Rattle.settlement.proofs.order.write_order.Tie as tie
 
 abbrev Inv-loop : tie.InvT-loop
-Inv-loop n table top cells order₀ taken₀ count₀ s₀ order taken count s = (s ≤ top) × Upto n (vertices first table) order₀ taken₀ s count order taken
+Inv-loop n table top cells order₀ taken₀ count₀ s₀ order taken count s = (s ≤ top) × Upto (boxSetting n) n (vertices first table) order₀ taken₀ s count order taken
 
 abbrev μ-loop : tie.MeasureT-loop
 μ-loop n table top cells order₀ taken₀ count₀ s₀ order taken count s = top - s
@@ -29,7 +31,7 @@ loop-holds c =
     let D = g .pre .0 in
     let vs = vertices first (g .args .table .now) in
     let m = g .args .taken .now in
-    (omega arith, upto-start (g .args .n) vs (g .args .order .now) m (D .fits .ready .room) (λ q lq. ap (λ b. getD b q 0) (D .cleared) ∙ over-at (λ i. 0) (length vs) m q lq))
+    (omega arith, upto-start (boxSetting (g .args .n)) (g .args .n) vs (g .args .order .now) m (D .fits .ready .room) (λ q lq. ap (λ b. getD b q 0) (D .cleared) ∙ over-at (λ i. 0) (length vs) m q lq))
 
 shared-slice-read-c : tie.Need-shared-slice-read-c Inv-loop μ-loop
 shared-slice-read-c c = let g = c .before .before .before .before .before .before .before in omega (arith, g .pre .0 .in-cells .slots, g .pre .1)
@@ -40,7 +42,7 @@ returns c =
     let g = l .before .before .before .before .before in
     let D = g .pre .0 in
     let low : l .loop .s < highest (vertices first (g .args .table .now)) = omega (arith, g .pre .1) in
-    upto-stop (D .cleared) (l .loop .inv .1) low (cell-undecided _ (sym (D .in-cells .held (l .loop .s) (omega arith) low) ∙ c .if1 .taken))
+    upto-stop (D .cleared) (l .loop .inv .1) (slot-low _ _ low) (cell-undecided _ (sym (D .in-cells .held (l .loop .s) (omega arith) low) ∙ c .if1 .taken))
 
 cast-write-leader : tie.Need-cast-write-leader Inv-loop μ-loop
 cast-write-leader c =
@@ -59,7 +61,7 @@ write-leader-requires c κs =
     let holds = D .in-cells .held (l .loop .s) (omega arith) (omega (arith, g .pre .1)) in
     let led = cell-leader A (l .loop .s) _ holds (x .before .if1 .left) (x .if2 .taken) in
     let fits : Fits first (g .args .n) (g .args .table .now) (l .loop .order) (l .loop .taken) = record { ready = ready-on R (U .kept); places = omega (arith, D .fits .places, U .kept-places) } in
-    (fits, (led .1, (upto-told A (R .room) (D .fits .places) U, upto-count A (R .room) (D .fits .places) U)))
+    (fits, (led .1, (upto-told A (by-references A) (R .room) (D .fits .places) U, upto-count A (by-references A) (R .room) (D .fits .places) U)))
 
 loop-again : tie.Need-loop-again Inv-loop μ-loop
 loop-again c =
@@ -75,16 +77,17 @@ loop-again c =
     ⊎-elim
     (λ x.
     let led = cell-leader A j _ holds (c .before .if1 .left) (x .0 .taken) in
-    let next = upto-commit A (R .room) (D .fits .places) U (getD (g .args .cells .now) j 0 - 2) (led .1) low (led .0) (x .3 .result) (x .3 .last .1 .1 .1 .0) (x .3 .last .1 .1 .1 .1 .0) (x .3 .ensures) in
+    let next = upto-commit A (by-references A) (R .room) (D .fits .places) U (getD (g .args .cells .now) j 0 - 2) (led .1) (slot-low _ _ low) (led .0) (x .3 .result) (x .3 .last .1 .1 .1 .0) (x .3 .last .1 .1 .1 .1 .0) (x .3 .ensures) in
     (omega arith, rw (x .8, x .9, x .10) next))
-    (λ x. (omega arith, rw (x .1, x .2, x .3) (upto-skip A (R .room) (D .fits .places) U low (cell-skipped _ (sym holds ∙ x .0 .left)))))
+    (λ x. (omega arith, rw (x .1, x .2, x .3) (upto-skip A (by-references A) (R .room) (D .fits .places) U (slot-low _ _ low) (cell-skipped _ (sym holds ∙ x .0 .left)))))
     (c .if2 .came)
 
 returns-2 : tie.Need-returns-2 Inv-loop μ-loop
 returns-2 c =
     let l = c .before in
     let g = l .before .before .before .before .before in
-    upto-end (g .pre .0 .cleared) (l .loop .inv .1) (omega (arith, g .pre .1))
+    let top = decisions-length (boxSetting (g .args .n)) (g .args .n) (vertices first (g .args .table .now)) in
+    upto-end (g .pre .0 .cleared) (l .loop .inv .1) (omega (arith, g .pre .1, top))
 
 pub write-order-spec : {M : Type 1} → statement M
 write-order-spec =

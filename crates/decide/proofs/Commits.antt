@@ -12,10 +12,8 @@ use Rattle.folds.specs.Folds.{_and_, firstTo}
 use Rattle.folds.proofs.Tests.{by-test, not-both, failed, and-left, and-right, and-true}
 use Rattle.folds.proofs.Laws.{first-is, first-by}
 use Rattle.rules.specs.declared.Vertex.{Vertex}
-use Rattle.rules.specs.declared.Checked.the-variants.{Passed}
-use Rattle.rules.specs.Record.{first, records, vertices, at}
-use Rattle.rules.specs.Check.{check}
-use Rattle.rules.proofs.Records.{vertices-length}
+use Rattle.rules.specs.Record.{at}
+use Rattle.rules.proofs.Accepted.{Accepted}
 use Rattle.decide.specs.Range.{startOf}
 use Rattle.decide.specs.Cells.{firstIn}
 use Rattle.decide.proofs.Ranges.{in-slot, slot-in}
@@ -66,32 +64,29 @@ module _ (vs : List Vertex) (pass : Vertex → Bool) (b : ℕ) where
 pub fail-on : (vs : List Vertex) (pass : Vertex → Bool) (from b e : ℕ) → FailTo vs pass from b → FailTo vs pass b e → FailTo vs pass from e
 fail-on vs pass from b e f g p l h = by-test (ltb p b) (λ t. f p l (ltb-true p b t)) (λ t. g p (ltb-false p b t) h)
 
-module _ (n : ℕ) (t : List ℕ) (ok : check first n t ≡ Passed) (r a : ℕ) (pass : Vertex → Bool) where
-  abbrev vs : List Vertex
-  vs = vertices first t
-
+module _ {n : ℕ} {vs : List Vertex} (A : Accepted n vs) (r a : ℕ) (pass : Vertex → Bool) where
   abbrev inTest : ℕ → Bool
   inTest p = (eqb (at vs p .round) r and eqb (at vs p .author) a) and pass (at vs p)
 
   -- what is not in the slot, and what is and fails
-  before-none : (p : ℕ) → FailTo vs pass (startOf t r a) p → p ≤ startOf t r (a + 1) → (i : ℕ) → i < records first t → (i < p) → inTest i ≡ false
-  before-none p f l i h k = failed _ (λ e. let s = slot-in n t ok r a i (record { within = h; round = eqb-true _ _ (and-left _ _ (and-left _ _ e)); author = eqb-true _ _ (and-right _ _ (and-left _ _ e)) }) in not-both (and-right _ _ e) (f i (s .from-on) k))
+  before-none : (p : ℕ) → FailTo vs pass (startOf vs r a) p → p ≤ startOf vs r (a + 1) → (i : ℕ) → i < length vs → (i < p) → inTest i ≡ false
+  before-none p f l i h k = failed _ (λ e. let s = slot-in A r a i (record { within = h; round = eqb-true _ _ (and-left _ _ (and-left _ _ e)); author = eqb-true _ _ (and-right _ _ (and-left _ _ e)) }) in not-both (and-right _ _ e) (f i (s .from-on) k))
 
-  pub first-in-found : (p : ℕ) → startOf t r a ≤ p → p < startOf t r (a + 1) → FailTo vs pass (startOf t r a) p → pass (at vs p) ≡ true → p ≡ firstIn vs r a pass
+  pub first-in-found : (p : ℕ) → startOf vs r a ≤ p → p < startOf vs r (a + 1) → FailTo vs pass (startOf vs r a) p → pass (at vs p) ≡ true → p ≡ firstIn vs r a pass
   unfolding firstIn
   first-in-found p l h f e =
-      let s = in-slot n t ok r a p l h in
+      let s = in-slot A r a p l h in
       sym (first-by inTest (length vs) p (record {
-        within = omega (arith, s .within, vertices-length first t);
+        within = omega (arith, s .within);
         before = λ i k. before-none p f (omega arith) i (omega (arith, s .within)) k;
         hit = λ _. and-true _ _ (and-true _ _ (eq-eqb _ _ (s .round)) (eq-eqb _ _ (s .author))) e;
       }))
 
-  pub first-in-none : FailTo vs pass (startOf t r a) (startOf t r (a + 1)) → records first t ≡ firstIn vs r a pass
+  pub first-in-none : FailTo vs pass (startOf vs r a) (startOf vs r (a + 1)) → length vs ≡ firstIn vs r a pass
   unfolding firstIn
   first-in-none f =
-      sym (first-by inTest (length vs) (records first t) (record {
-        within = omega (arith, vertices-length first t);
-        before = λ i k. failed _ (λ e. let s = slot-in n t ok r a i (record { within = k; round = eqb-true _ _ (and-left _ _ (and-left _ _ e)); author = eqb-true _ _ (and-right _ _ (and-left _ _ e)) }) in not-both (and-right _ _ e) (f i (s .from-on) (s .up-to)));
-        hit = λ l. absurd (omega (arith, vertices-length first t));
+      sym (first-by inTest (length vs) (length vs) (record {
+        within = omega arith;
+        before = λ i k. failed _ (λ e. let s = slot-in A r a i (record { within = k; round = eqb-true _ _ (and-left _ _ (and-left _ _ e)); author = eqb-true _ _ (and-right _ _ (and-left _ _ e)) }) in not-both (and-right _ _ e) (f i (s .from-on) (s .up-to)));
+        hit = λ l. absurd (omega arith);
       }))

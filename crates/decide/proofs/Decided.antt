@@ -1,6 +1,6 @@
 -- What `decide` promises, by its three ways out: the table's refusal, a lent buffer that is too short, and every round decided.
 -- Assumes nothing.
-use Prim.Native.Nat.{ℕ, _+_, _-_, _≤_, _<_}
+use Prim.Native.Nat.{ℕ, _-_, _≤_, _<_}
 use mathlib.Core.Path.{_≡_, refl, sym, ap, _∙_}
 use mathlib.Core.Bool.{true}
 use mathlib.Core.List.{List, _++_, map}
@@ -15,12 +15,14 @@ use Rattle.rules.specs.declared.Refusal.{Refusal}
 use Rattle.rules.specs.declared.Refusal.the-variants.{Lent}
 use Rattle.rules.specs.declared.Checked.the-variants.{Passed, Refused}
 use Rattle.rules.specs.Record.{first, records, vertices}
-use Rattle.rules.specs.Refusals.{_when_, _then_}
 use Rattle.rules.specs.Check.{check}
 use Rattle.rules.specs.Decision.{cell}
 use Rattle.rules.specs.Decide.{boxSetting, highest, decisions}
 use Rattle.rules.specs.Settlement.{Buffers, writtenOver, tooShort}
 use Rattle.rules.proofs.Refusals.{then-refused, then-passed, when-yes, when-no}
+use Rattle.rules.proofs.Records.{vertices-length}
+use Rattle.decide.specs.Ready.{Ready}
+use Rattle.decide.proofs.Passed.{sound}
 use Rattle.decide.specs.Promise.{DecidesTo, lentCheck, cellsAfter, takenAfter}
 
 module _ (n : ℕ) (t : List ℕ) (b : Buffers) where
@@ -45,23 +47,38 @@ module _ (n : ℕ) (t : List ℕ) (b : Buffers) where
     unfolding tooShort
     short-cells l = too-short (or-left _ _ (lt-ltb _ _ l))
 
-    pub short-order : length (b .order) < length vs → DecidesTo n t b (Refused Lent) (b .cells) (b .taken)
-    unfolding tooShort
-    short-order l = too-short (or-right _ _ (or-left _ _ (lt-ltb _ _ l)))
+    -- k of the records, as the code counts them
+    module _ (k : ℕ) (size : k ≡ records first t) where
+      all-records : k ≡ length vs
+      all-records = size ∙ sym (vertices-length first t)
 
-    pub short-taken : length (b .taken) < length vs → DecidesTo n t b (Refused Lent) (b .cells) (b .taken)
-    unfolding tooShort
-    short-taken l = too-short (or-right _ _ (or-right _ _ (lt-ltb _ _ l)))
+      pub short-order : length (b .order) < k → DecidesTo n t b (Refused Lent) (b .cells) (b .taken)
+      unfolding tooShort
+      short-order l = too-short (or-right _ _ (or-left _ _ (lt-ltb (length (b .order)) (length vs) (omega (arith, l, all-records)))))
 
-    module _ (c : highest vs ≤ length (b .cells)) (o : length vs ≤ length (b .order)) (k : length vs ≤ length (b .taken)) where
-      pub decided-to : (cells taken : List ℕ) → cells ≡ writtenOver (map cell (decisions (boxSetting n) n vs)) (b .cells) → taken ≡ bytesOver (λ p. 0) (records first t) (b .taken) → DecidesTo n t b Passed cells taken
+      pub short-taken : length (b .taken) < k → DecidesTo n t b (Refused Lent) (b .cells) (b .taken)
+      unfolding tooShort
+      short-taken l = too-short (or-right _ _ (or-right _ _ (lt-ltb (length (b .taken)) (length vs) (omega (arith, l, all-records)))))
+
+      -- all fits: the rounds are decided on the first k taken bytes
+      pub ready : k ≤ length (b .taken) → Ready first n t (take (k - 0) (b .taken))
+      ready l =
+          let long : length (take (k - 0) (b .taken)) ≡ k = length-take (k - 0) (b .taken) ∙ omega (arith, l) in
+          record { sound = sound first n t passes; room = omega (arith, long, all-records) }
+
+      pub decided-to : highest vs ≤ length (b .cells) → k ≤ length (b .order) → k ≤ length (b .taken) → (cells taken : List ℕ)
+          → cells ≡ writtenOver (map cell (decisions (boxSetting n) n vs)) (b .cells) → taken ≡ bytesOver (λ p. 0) k (b .taken) → DecidesTo n t b Passed cells taken
       unfolding cellsAfter takenAfter tooShort
-      decided-to cells taken e f = record { answer = sym (then-passed _ _ passes ∙ when-no _ _ (or-false _ _ (le-ltb _ _ c) (or-false _ _ (le-ltb _ _ o) (le-ltb _ _ k)))); in-cells = e; in-taken = f }
+      decided-to c o l cells taken e f = record {
+        answer = sym (then-passed _ _ passes ∙ when-no _ _ (or-false _ _ (le-ltb _ _ c) (or-false _ _ (le-ltb (length (b .order)) (length vs) (omega (arith, o, all-records))) (le-ltb (length (b .taken)) (length vs) (omega (arith, l, all-records))))));
+        in-cells = e;
+        in-taken = f ∙ ap (λ j. bytesOver (λ p. 0) j (b .taken)) size;
+      }
 
 -- ---- the taken bytes, of which the first k are lent as work space
 
 module _ (part old : List ℕ) (k : ℕ) (room : k ≤ length old) (e : length part ≡ length (take (k - 0) old)) where
-  part-length : length part ≡ k
+  pub part-length : length part ≡ k
   part-length = e ∙ length-take (k - 0) old ∙ omega arith
 
   pub lent-length : k ≤ length (part ++ drop (k - 0) old)

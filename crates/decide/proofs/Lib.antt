@@ -1,8 +1,12 @@
+pub mod Passed
 pub mod Ranges
 pub mod Certified
 pub mod Tagging
 pub mod Commits
+pub mod Marked
 pub mod Sweeps
+pub mod Members
+pub mod Stops
 pub mod InCells
 pub mod Decided
 pub mod Unique

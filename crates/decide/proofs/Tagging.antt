@@ -15,13 +15,10 @@ use Rattle.folds.specs.Folds.{_and_, bit, anyTo, countTo}
 use Rattle.folds.proofs.Tests.{by-test, and-left, and-right, and-true, both-ways}
 use Rattle.folds.proofs.Laws.{any-witness, any-intro, any-same, any-count, count-yes, count-no, count-same}
 use Rattle.rules.specs.declared.Vertex.{Vertex}
-use Rattle.rules.specs.declared.Checked.the-variants.{Passed}
 use Rattle.rules.specs.Authors.{quorum}
-use Rattle.rules.specs.Record.{first, records, vertices, at, entry}
-use Rattle.rules.specs.Check.{check}
+use Rattle.rules.specs.Record.{at, entry}
 use Rattle.rules.specs.Support.{blank, certifies, authorsWith, directCommit, directSkip}
-use Rattle.rules.proofs.Records.{vertices-length}
-use Rattle.rules.proofs.Accepted.{accepted}
+use Rattle.rules.proofs.Accepted.{Accepted}
 use Rattle.rules.proofs.Support.{blank-is, is-blank, certifies-is}
 use Rattle.decide.specs.Range.{startOf}
 use Rattle.decide.specs.Certify.{certifiedAt}
@@ -120,40 +117,37 @@ authorTagged vs k tag m a = anyTo (λ q. (eqb (at vs q .round) k and eqb (at vs 
 
 -- ---- in a table that passed
 
-module _ (n : ℕ) (t : List ℕ) (ok : check first n t ≡ Passed) where
-  abbrev vs : List Vertex
-  vs = vertices first t
-
+module _ {n : ℕ} {vs : List Vertex} (A : Accepted n vs) where
   -- all bytes of the round are tagged
-  pub tagged-end : (k k′ from : ℕ) (tag : ℕ → ℕ) (old new : List ℕ) (q : ℕ) → k′ ≡ k + 1 → from ≡ startOf t k 0 → startOf t k′ 0 ≤ q → TaggedTo from tag old q new
+  pub tagged-end : (k k′ from : ℕ) (tag : ℕ → ℕ) (old new : List ℕ) (q : ℕ) → k′ ≡ k + 1 → from ≡ startOf vs k 0 → startOf vs k′ 0 ≤ q → TaggedTo from tag old q new
       → Tagged vs k tag old new
   tagged-end k k′ from tag old new q u f l s = record {
     retagged = s .retagged;
     tags = λ j h e.
-        let i = round-in n t ok k j (record { within = rw (← vertices-length first t) h; round = e }) in
-        let up : j < startOf t k′ 0 = rw u (i .up-to) in
+        let i = round-in A k j (record { within = h; round = e }) in
+        let up : j < startOf vs k′ 0 = rw u (i .up-to) in
         s .tags j (omega (arith, f, i .from-on)) (omega arith);
   }
 
   -- its vertices stand side by side
-  author-tagged : (k tag a : ℕ) (m : List ℕ) → anyTo (taggedFrom m (startOf t k a) tag) (startOf t k (a + 1) - startOf t k a) ≡ authorTagged vs k tag m a
+  author-tagged : (k tag a : ℕ) (m : List ℕ) → anyTo (taggedFrom m (startOf vs k a) tag) (startOf vs k (a + 1) - startOf vs k a) ≡ authorTagged vs k tag m a
   author-tagged k tag a m = both-ways _ _ (λ e. there (any-witness _ _ e)) (λ e. back (any-witness _ _ e))
     where
       s : ℕ
-      s = startOf t k a
+      s = startOf vs k a
 
-      there : (i : ℕ) × (i < startOf t k (a + 1) - s) × (taggedFrom m s tag i ≡ true) → authorTagged vs k tag m a ≡ true
+      there : (i : ℕ) × (i < startOf vs k (a + 1) - s) × (taggedFrom m s tag i ≡ true) → authorTagged vs k tag m a ≡ true
       there (i, l, e) =
-          let h = in-slot n t ok k a (s + i) (omega arith) (omega arith) in
-          any-intro _ (length vs) (s + i) (rw (vertices-length first t) (h .within)) (and-true _ _ (and-true _ _ (eq-eqb _ _ (h .round)) (eq-eqb _ _ (h .author))) e)
+          let h = in-slot A k a (s + i) (omega arith) (omega arith) in
+          any-intro _ (length vs) (s + i) (h .within) (and-true _ _ (and-true _ _ (eq-eqb _ _ (h .round)) (eq-eqb _ _ (h .author))) e)
 
-      back : (q : ℕ) × (q < length vs) × ((eqb (at vs q .round) k and eqb (at vs q .author) a) and eqb (tagAt m q) tag ≡ true) → anyTo (taggedFrom m s tag) (startOf t k (a + 1) - s) ≡ true
+      back : (q : ℕ) × (q < length vs) × ((eqb (at vs q .round) k and eqb (at vs q .author) a) and eqb (tagAt m q) tag ≡ true) → anyTo (taggedFrom m s tag) (startOf vs k (a + 1) - s) ≡ true
       back (q, l, e) =
-          let i = slot-in n t ok k a q (record { within = rw (← vertices-length first t) l; round = eqb-true _ _ (and-left _ _ (and-left _ _ e)); author = eqb-true _ _ (and-right _ _ (and-left _ _ e)) }) in
-          tag-found m s tag q (i .from-on) (startOf t k (a + 1)) (i .up-to) (eqb-true _ _ (and-right _ _ e))
+          let i = slot-in A k a q (record { within = l; round = eqb-true _ _ (and-left _ _ (and-left _ _ e)); author = eqb-true _ _ (and-right _ _ (and-left _ _ e)) }) in
+          tag-found m s tag q (i .from-on) (startOf vs k (a + 1)) (i .up-to) (eqb-true _ _ (and-right _ _ e))
 
   -- and they count once
-  pub author-once : (k tag a : ℕ) (m : List ℕ) → min (countTo (taggedFrom m (startOf t k a) tag) (startOf t k (a + 1) - startOf t k a)) 1 ≡ bit (authorTagged vs k tag m a)
+  pub author-once : (k tag a : ℕ) (m : List ℕ) → min (countTo (taggedFrom m (startOf vs k a) tag) (startOf vs k (a + 1) - startOf vs k a)) 1 ≡ bit (authorTagged vs k tag m a)
   author-once k tag a m = one-of _ ∙ ap bit (sym (any-count _ _) ∙ author-tagged k tag a m)
 
   -- ---- the counts of the direct rules
@@ -190,12 +184,12 @@ module _ (n : ℕ) (t : List ℕ) (ok : check first n t ≡ Passed) where
           ∙ both-ways _ _ (λ h. is-blank _ r leader (record { one-up = e; empty = eqb-true _ _ h })) (λ h. eq-eqb _ _ (blank-is _ r leader h .empty)))
 
   -- tag p - b + 1 on those that certify the vertex at p
-  pub commit-tagged : (r leader b e p : ℕ) (m : List ℕ) → ((w : ℕ) → w < records first t → at vs w .round ≡ r + 2 → tagAt m w ≡ windowTag (certifiedAt n vs r leader w) b e)
-      → b ≤ p → p < e → InSlot t r leader p → leb (quorum n) (authorsTagged n vs (r + 2) (p - b + 1) m) ≡ directCommit n vs (at vs p)
+  pub commit-tagged : (r leader b e p : ℕ) (m : List ℕ) → ((w : ℕ) → w < length vs → at vs w .round ≡ r + 2 → tagAt m w ≡ windowTag (certifiedAt n vs r leader w) b e)
+      → b ≤ p → p < e → InSlot vs r leader p → leb (quorum n) (authorsTagged n vs (r + 2) (p - b + 1) m) ≡ directCommit n vs (at vs p)
   unfolding directCommit
   commit-tagged r leader b e p m T l h s = ap (leb (quorum n)) (authors-tagged-are (r + 2) (p - b + 1) m (λ w. certifies n vs w (at vs p)) told (λ v c. certifies-is n vs v (at vs p) c .two-up ∙ ap (λ x. x + 2) (s .round)))
     where
       told : (w : ℕ) → w < length vs → at vs w .round ≡ r + 2 → eqb (tagAt m w) (p - b + 1) ≡ certifies n vs (at vs w) (at vs p)
       told w lw q =
-          rw (T w (rw (← vertices-length first t) lw) q) (window-test (certifiedAt n vs r leader w) p b e l h)
-          ∙ certified-test (accepted first n t ok) w r leader p q (rw (vertices-length first t) (s .within)) (s .round) (s .author)
+          rw (T w lw q) (window-test (certifiedAt n vs r leader w) p b e l h)
+          ∙ certified-test A w leader lw r q p (s .within) (s .round) (s .author)

@@ -1,4 +1,5 @@
 pub mod Range
+pub mod Ready
 pub mod Certify
 pub mod Work
 pub mod Sweep

@@ -1,9 +1,12 @@
 -- Where the records of a round and author begin: those below stand before it, the others after it.
 -- Assumes nothing.
 use Prim.Native.Nat.{ℕ}
+use mathlib.Core.Bool.{not}
 use mathlib.Core.List.{List}
-use Rattle.rules.specs.Record.{first, records, named}
-use Rattle.table.specs.Search.{placeOf}
+use lib.ListN.{length}
+use Rattle.folds.specs.Folds.{firstTo}
+use Rattle.rules.specs.declared.Vertex.{Vertex}
+use Rattle.rules.specs.Record.{at, nameOf, below, named}
 
-abbrev pub startOf : List ℕ → (round author : ℕ) → ℕ
-startOf t r a = placeOf t (records first t) (named r a 0)
+unfoldable pub startOf : List Vertex → (round author : ℕ) → ℕ
+startOf vs r a = firstTo (λ p. not (below (nameOf (at vs p)) (named r a 0))) (length vs)

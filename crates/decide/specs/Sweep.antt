@@ -9,16 +9,14 @@ use lib.ListN.{length, getD}
 use Rattle.folds.specs.Folds.{_and_, _or_, bit, anyTo}
 use Rattle.rules.specs.declared.Vertex.{Vertex}
 use Rattle.rules.specs.Record.{at, nameOf}
-use Rattle.rules.specs.Support.{references}
-use Rattle.rules.specs.History.{history}
+use Rattle.rules.specs.History.{StepRule, history}
 use Rattle.decide.specs.Work.{historyAt}
 
-unfoldable pub markedFrom : List Vertex → (a p q : ℕ) → Bool
-markedFrom vs a p q =
-    eqb q a or anyTo (λ j. leb p j and getD (history references vs a) j false and references (at vs j) (nameOf (at vs q))) (length vs)
+unfoldable pub markedFrom : StepRule → List Vertex → (a p q : ℕ) → Bool
+markedFrom step vs a p q = eqb q a or anyTo (λ j. leb p j and getD (history step vs a) j false and step (at vs j) (nameOf (at vs q))) (length vs)
 
 -- The bytes say so of every record. With all from p on looked at, what is said of p itself and above is the history.
-pub record Swept (vs : List Vertex) (a p : ℕ) (m : List ℕ) : Type 0 where
+pub record Swept (step : StepRule) (vs : List Vertex) (a p : ℕ) (m : List ℕ) : Type 0 where
   pub within : a < length vs
   pub low : p ≤ suc a
-  pub told : (q : ℕ) → q < length vs → historyAt m q ≡ bit (markedFrom vs a p q)
+  pub told : (q : ℕ) → q < length vs → historyAt m q ≡ bit (markedFrom step vs a p q)

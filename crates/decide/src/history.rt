@@ -1,13 +1,12 @@
 // The history of an anchor, marked in the upper part of the work bytes from the anchor downward. References are to earlier records, so
 // one pass finds all; it stops where the round in hand needs no more, and goes on from there for the next.
 ghost use mathlib.Core.Path.{_≡_};
-ghost use Prim.Native.Nat.{ℕ, suc, _+_, _-_, _/_, _%_, _<_, _≤_};
+ghost use Prim.Native.Nat.{ℕ, suc, _+_, _%_, _≤_, _<_};
 ghost use lib.Dec.{eqb};
 ghost use lib.ListN.{length};
 ghost use Rattle.folds.specs.Folds.{_or_, bit};
-ghost use Rattle.rules.specs.declared.Checked.the-variants.{Passed};
-ghost use Rattle.rules.specs.Record.{first, records, vertices, at, nameOf};
-ghost use Rattle.rules.specs.Check.{check};
+ghost use Rattle.rules.specs.Record.{first, at, nameOf};
+ghost use Rattle.decide.specs.Ready.{verticesOf, recordsOf, lastRound, Ready};
 ghost use Rattle.rules.specs.Support.{references};
 ghost use Rattle.rules.specs.History.{history};
 ghost use Rattle.rules.specs.Decide.{certifiedIn};
@@ -18,9 +17,7 @@ ghost use Rattle.decide.specs.Cells.{firstIn, Walked};
 use crate::certify::certified_at;
 use crate::range::begin;
 use crate::range::smaller;
-use record::RECORD;
-use rules::Name;
-use table::find;
+use references::places_of;
 
 // How far the history of an anchor is marked: from `done` on, all are looked at. A position past the records is no anchor.
 pub(crate) struct Walk {
@@ -41,120 +38,99 @@ fn without_history(byte: u8) -> u8
 }
 
 // No vertex is in the history.
-fn forget(marks: &mut [u8], k: usize)
-    requires { ⌜ k ≤ length (now marks) ⌝ }
-    ensures { λ r. ⌜ length (now (marks .exit)) ≡ length (now (marks .entry)) ⌝ }
-    ensures { λ r. ⌜ ((q : ℕ) → q < k → historyAt (now (marks .exit)) q ≡ 0) ⌝ }
+fn forget(work: &mut [u8], k: usize)
+    requires { ⌜ k ≤ length (now work) ⌝ }
+    ensures { λ r. ⌜ length (now (work .exit)) ≡ length (now (work .entry)) ⌝ }
+    ensures { λ r. ⌜ ((q : ℕ) → q < k → historyAt (now (work .exit)) q ≡ 0) ⌝ }
 {
     let mut q: usize = 0;
     while q < k {
-        marks[q] = without_history(marks[q]);
+        work[q] = without_history(work[q]);
         q += 1;
     }
 }
 
 // The anchor alone is in its history yet.
-fn start(n: u8, table: &[u8], a: usize, marks: &mut [u8])
-    requires { ⌜ check first n (now table) ≡ Passed ⌝ }
-    requires { ⌜ a < records first (now table) ⌝ }
-    requires { ⌜ records first (now table) ≤ length (now marks) ⌝ }
-    ensures { λ r. ⌜ length (now (marks .exit)) ≡ length (now (marks .entry)) ⌝ }
-    ensures { λ r. ⌜ Swept (vertices first (now (table .entry))) a (suc a) (now (marks .exit)) ⌝ }
+fn start(n: u8, table: &[u8], a: usize, work: &mut [u8])
+    requires { ⌜ Ready first n (now table) (now work) ⌝ }
+    requires { ⌜ a < recordsOf (now table) ⌝ }
+    ensures { λ r. ⌜ length (now (work .exit)) ≡ length (now (work .entry)) ⌝ }
+    ensures { λ r. ⌜ Swept references (verticesOf (now (table .entry))) a (suc a) (now (work .exit)) ⌝ }
 {
-    forget(marks, table.len() / RECORD);
-    marks[a] = with_history(marks[a]);
+    forget(work, record::records_of(table));
+    work[a] = with_history(work[a]);
 }
 
 // What the vertex at p references is in the history too.
-fn mark_refs(n: u8, table: &[u8], p: usize, marks: &mut [u8])
-    requires { ⌜ check first n (now table) ≡ Passed ⌝ }
-    requires { ⌜ p < records first (now table) ⌝ }
-    requires { ⌜ records first (now table) ≤ length (now marks) ⌝ }
-    ensures { λ r. ⌜ length (now (marks .exit)) ≡ length (now (marks .entry)) ⌝ }
-    ensures { λ r. ⌜ ((q : ℕ) → q < records first (now (table .entry)) → historyAt (now (marks .exit)) q ≡ bit (eqb (historyAt (now (marks .entry)) q) 1 or references (at (vertices first (now (table .entry))) p) (nameOf (at (vertices first (now (table .entry))) q)))) ⌝ }
+fn mark_refs(n: u8, table: &[u8], p: usize, work: &mut [u8])
+    requires { ⌜ Ready first n (now table) (now work) ⌝ }
+    requires { ⌜ p < recordsOf (now table) ⌝ }
+    ensures { λ r. ⌜ length (now (work .exit)) ≡ length (now (work .entry)) ⌝ }
+    ensures { λ r. ⌜ ((q : ℕ) → q < recordsOf (now (table .entry)) → historyAt (now (work .exit)) q ≡ bit (eqb (historyAt (now (work .entry)) q) 1 or references (at (verticesOf (now (table .entry))) p) (nameOf (at (verticesOf (now (table .entry))) q)))) ⌝ }
 {
-    let v = record::decode(&table[RECORD * p..RECORD * p + RECORD]);
-    let refs = v.refs;
+    let places = places_of(table, p);
     let k = n as usize;
     let mut i: usize = 0;
     while i < k {
-        let mark = refs[i];
-        if mark != 0 {
-            let x = Name {
-                round: v.round - 1,
-                author: i as u8,
-                mark,
-            };
-            let q = find(table, p, x);
-            if q < p {
-                marks[q] = with_history(marks[q]);
-            }
+        let q = places[i];
+        if q < p {
+            work[q] = with_history(work[q]);
         }
         i += 1;
     }
 }
 
 // From one position down to another, what belongs hands on to what it references.
-fn sweep(n: u8, table: &[u8], a: usize, from: usize, to: usize, marks: &mut [u8])
-    requires { ⌜ check first n (now table) ≡ Passed ⌝ }
+fn sweep(n: u8, table: &[u8], a: usize, from: usize, to: usize, work: &mut [u8])
+    requires { ⌜ Ready first n (now table) (now work) ⌝ }
     requires { ⌜ to ≤ from ⌝ }
-    requires { ⌜ records first (now table) ≤ length (now marks) ⌝ }
-    requires { ⌜ Swept (vertices first (now table)) a from (now marks) ⌝ }
-    ensures { λ r. ⌜ length (now (marks .exit)) ≡ length (now (marks .entry)) ⌝ }
-    ensures { λ r. ⌜ Swept (vertices first (now (table .entry))) a to (now (marks .exit)) ⌝ }
+    requires { ⌜ Swept references (verticesOf (now table)) a from (now work) ⌝ }
+    ensures { λ r. ⌜ length (now (work .exit)) ≡ length (now (work .entry)) ⌝ }
+    ensures { λ r. ⌜ Swept references (verticesOf (now (table .entry))) a to (now (work .exit)) ⌝ }
 {
     let mut p = from;
     while to < p {
         p -= 1;
-        if 128 <= marks[p] {
-            mark_refs(n, table, p, marks);
+        if 128 <= work[p] {
+            mark_refs(n, table, p, work);
         }
     }
 }
 
 // How far the history of the anchor at a is marked. The walk in hand goes on if it is of the same anchor.
-fn take_up(n: u8, table: &[u8], a: usize, walk: Walk, marks: &mut [u8]) -> usize
-    requires { ⌜ check first n (now table) ≡ Passed ⌝ }
-    requires { ⌜ a < records first (now table) ⌝ }
-    requires { ⌜ records first (now table) ≤ length (now marks) ⌝ }
-    requires { ⌜ Walked (vertices first (now table)) (walk .anchor) (walk .done) (now marks) ⌝ }
-    ensures { λ r. ⌜ length (now (marks .exit)) ≡ length (now (marks .entry)) ⌝ }
-    ensures { λ r. ⌜ Swept (vertices first (now (table .entry))) a r (now (marks .exit)) ⌝ }
+fn take_up(n: u8, table: &[u8], a: usize, walk: Walk, work: &mut [u8]) -> usize
+    requires { ⌜ Ready first n (now table) (now work) ⌝ }
+    requires { ⌜ a < recordsOf (now table) ⌝ }
+    requires { ⌜ Walked references (verticesOf (now table)) (walk .anchor) (walk .done) (now work) ⌝ }
+    ensures { λ r. ⌜ length (now (work .exit)) ≡ length (now (work .entry)) ⌝ }
+    ensures { λ r. ⌜ Swept references (verticesOf (now (table .entry))) a r (now (work .exit)) ⌝ }
 {
     if walk.anchor == a {
         return walk.done;
     }
-    start(n, table, a, marks);
+    start(n, table, a, work);
     a + 1
 }
 
 // The history of the anchor at a, as far down as `to`.
-pub(crate) fn walk_to(
-    n: u8,
-    table: &[u8],
-    a: usize,
-    to: usize,
-    walk: Walk,
-    marks: &mut [u8],
-) -> Walk
-    requires { ⌜ check first n (now table) ≡ Passed ⌝ }
-    requires { ⌜ a < records first (now table) ⌝ }
+pub(crate) fn walk_to(n: u8, table: &[u8], a: usize, to: usize, walk: Walk, work: &mut [u8]) -> Walk
+    requires { ⌜ Ready first n (now table) (now work) ⌝ }
+    requires { ⌜ a < recordsOf (now table) ⌝ }
     requires { ⌜ to ≤ a ⌝ }
-    requires { ⌜ records first (now table) ≤ length (now marks) ⌝ }
-    requires { ⌜ Walked (vertices first (now table)) (walk .anchor) (walk .done) (now marks) ⌝ }
-    ensures { λ r. ⌜ length (now (marks .exit)) ≡ length (now (marks .entry)) ⌝ }
+    requires { ⌜ Walked references (verticesOf (now table)) (walk .anchor) (walk .done) (now work) ⌝ }
+    ensures { λ r. ⌜ length (now (work .exit)) ≡ length (now (work .entry)) ⌝ }
     ensures { λ r. ⌜ r .anchor ≡ a ⌝ }
     ensures { λ r. ⌜ r .done ≤ to ⌝ }
-    ensures { λ r. ⌜ Swept (vertices first (now (table .entry))) a (r .done) (now (marks .exit)) ⌝ }
+    ensures { λ r. ⌜ Swept references (verticesOf (now (table .entry))) a (r .done) (now (work .exit)) ⌝ }
 {
-    let from = take_up(n, table, a, walk, marks);
+    let from = take_up(n, table, a, walk, work);
     if from <= to {
         return Walk {
             anchor: a,
             done: from,
         };
     }
-    sweep(n, table, a, from, to, marks);
+    sweep(n, table, a, from, to, work);
     Walk {
         anchor: a,
         done: to,
@@ -169,20 +145,19 @@ pub(crate) fn certified_in(
     leader: u8,
     a: usize,
     done: usize,
-    marks: &[u8],
+    work: &[u8],
 ) -> usize
-    requires { ⌜ check first n (now table) ≡ Passed ⌝ }
-    requires { ⌜ round ≤ 1400 ⌝ }
-    requires { ⌜ records first (now table) ≤ length (now marks) ⌝ }
-    requires { ⌜ Swept (vertices first (now table)) a done (now marks) ⌝ }
-    requires { ⌜ done ≤ startOf (now table) (round + 3) 0 ⌝ }
-    ensures { λ r. ⌜ r ≡ firstIn (vertices first (now (table .entry))) round leader (certifiedIn n (vertices first (now (table .entry))) (history references (vertices first (now (table .entry))) a)) ⌝ }
+    requires { ⌜ Ready first n (now table) (now work) ⌝ }
+    requires { ⌜ round ≤ lastRound ⌝ }
+    requires { ⌜ Swept references (verticesOf (now table)) a done (now work) ⌝ }
+    requires { ⌜ done ≤ startOf (verticesOf (now table)) (round + 3) 0 ⌝ }
+    ensures { λ r. ⌜ r ≡ firstIn (verticesOf (now (table .entry))) round leader (certifiedIn n (verticesOf (now (table .entry))) (history references (verticesOf (now (table .entry))) a)) ⌝ }
 {
-    let end = begin(table, round + 3, 0);
-    let mut w = begin(table, round + 2, 0);
-    let mut best = table.len() / RECORD;
+    let end = begin(n, table, round + 3, 0);
+    let mut w = begin(n, table, round + 2, 0);
+    let mut best = record::records_of(table);
     while w < end {
-        if 128 <= marks[w] {
+        if 128 <= work[w] {
             best = smaller(best, certified_at(n, table, w, round, leader));
         }
         w += 1;

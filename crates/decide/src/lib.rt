@@ -5,7 +5,6 @@ ghost use lib.ListN.{length};
 ghost use Rattle.rules.specs.Settlement.{lent};
 ghost use Rattle.folds.specs.Folds.{bytesOver};
 ghost use Rattle.decide.specs.Promise.{DecidesTo};
-use record::RECORD;
 use rules::Checked;
 use rules::Refusal;
 
@@ -38,7 +37,7 @@ pub fn decide(n: u8, table: &[u8], cells: &mut [u32], order: &[u32], taken: &mut
         Checked::Passed => {}
         Checked::Refused(r) => return Checked::Refused(r),
     }
-    let k = table.len() / RECORD;
+    let k = record::records_of(table);
     let top = table::highest_of(table) as usize;
     if cells.len() < top {
         return Checked::Refused(Refusal::Lent);

@@ -1,19 +1,20 @@
 // Where the records of a round, and of an author in it, begin. Names rise, so they stand side by side.
 ghost use mathlib.Core.Path.{_≡_};
 ghost use Prim.Native.Nat.{_<_, min};
-ghost use Rattle.rules.specs.Record.{first, records, vertices, at, entry};
+ghost use Rattle.rules.specs.Record.{first, at, entry};
+ghost use Rattle.decide.specs.Ready.{verticesOf, recordsOf, Sound};
 ghost use Rattle.decide.specs.Range.{startOf};
-use record::RECORD;
 use rules::Name;
 use table::place;
 
 // The first record of the round by that author or a higher one, or of a higher round.
-pub(crate) fn begin(table: &[u8], round: u32, author: u8) -> usize
-    ensures { λ r. ⌜ r ≡ startOf (now (table .entry)) round author ⌝ }
+pub(crate) fn begin(n: u8, table: &[u8], round: u32, author: u8) -> usize
+    requires { ⌜ Sound first n (now table) ⌝ }
+    ensures { λ r. ⌜ r ≡ startOf (verticesOf (now (table .entry))) round author ⌝ }
 {
     place(
         table,
-        table.len() / RECORD,
+        record::records_of(table),
         Name {
             round,
             author,
@@ -24,10 +25,10 @@ pub(crate) fn begin(table: &[u8], round: u32, author: u8) -> usize
 
 // Entry i of the record at p.
 pub(crate) fn entry_at(table: &[u8], p: usize, i: usize) -> u32
-    requires { ⌜ p < records first (now table) ⌝ }
-    ensures { λ r. ⌜ r ≡ entry (at (vertices first (now (table .entry))) p) i ⌝ }
+    requires { ⌜ p < recordsOf (now table) ⌝ }
+    ensures { λ r. ⌜ r ≡ entry (at (verticesOf (now (table .entry))) p) i ⌝ }
 {
-    record::entry_of(&table[RECORD * p..RECORD * p + RECORD], i)
+    record::entry_of(record::part(table, p), i)
 }
 
 pub(crate) fn smaller(a: usize, b: usize) -> usize

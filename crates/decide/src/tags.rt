@@ -1,13 +1,11 @@
 // Tags on the vertices of one round, kept in the lower part of the work bytes, and the count of different authors that have a tag.
 ghost use mathlib.Core.Path.{_≡_};
-ghost use mathlib.Core.Bool.{cond};
-ghost use Prim.Native.Nat.{_+_, _-_, _/_, _%_, _<_, _≤_};
-ghost use lib.Dec.{eqb, ltb};
-ghost use lib.ListN.{length, getD};
-ghost use Rattle.folds.specs.Folds.{_and_, bit, countTo};
-ghost use Rattle.rules.specs.declared.Checked.the-variants.{Passed};
-ghost use Rattle.rules.specs.Record.{first, records, vertices, at, entry};
-ghost use Rattle.rules.specs.Check.{check};
+ghost use Prim.Native.Nat.{_+_, _-_, _/_, _%_, _≤_, _<_};
+ghost use lib.Dec.{eqb};
+ghost use lib.ListN.{length};
+ghost use Rattle.folds.specs.Folds.{bit, countTo};
+ghost use Rattle.rules.specs.Record.{first, at, entry};
+ghost use Rattle.decide.specs.Ready.{verticesOf, lastRound, Ready};
 ghost use Rattle.decide.specs.Certify.{certifiedAt};
 ghost use Rattle.decide.specs.Work.{tagAt, Tagged, authorsTagged, windowTag};
 use crate::certify::certified_at;
@@ -31,17 +29,16 @@ fn blank_tag(mark: u32) -> u8
 }
 
 // Tag 1 on the vertices of the round after that are blank for it, 0 on the others there.
-pub(crate) fn tag_blank(n: u8, table: &[u8], round: u32, leader: u8, marks: &mut [u8])
-    requires { ⌜ check first n (now table) ≡ Passed ⌝ }
-    requires { ⌜ round ≤ 1400 ⌝ }
-    requires { ⌜ records first (now table) ≤ length (now marks) ⌝ }
-    ensures { λ r. ⌜ Tagged (vertices first (now (table .entry))) (round + 1) (λ q. bit (eqb (entry (at (vertices first (now (table .entry))) q) leader) 0)) (now (marks .entry)) (now (marks .exit)) ⌝ }
+pub(crate) fn tag_blank(n: u8, table: &[u8], round: u32, leader: u8, work: &mut [u8])
+    requires { ⌜ Ready first n (now table) (now work) ⌝ }
+    requires { ⌜ round ≤ lastRound ⌝ }
+    ensures { λ r. ⌜ Tagged (verticesOf (now (table .entry))) (round + 1) (λ q. bit (eqb (entry (at (verticesOf (now (table .entry))) q) leader) 0)) (now (work .entry)) (now (work .exit)) ⌝ }
 {
-    let end = begin(table, round + 2, 0);
-    let mut q = begin(table, round + 1, 0);
+    let end = begin(n, table, round + 2, 0);
+    let mut q = begin(n, table, round + 1, 0);
     while q < end {
         let tag = blank_tag(entry_at(table, q, leader as usize));
-        marks[q] = with_tag(marks[q], tag);
+        work[q] = with_tag(work[q], tag);
         q += 1;
     }
 }
@@ -68,33 +65,32 @@ pub(crate) fn tag_certified(
     leader: u8,
     b: usize,
     e: usize,
-    marks: &mut [u8],
+    work: &mut [u8],
 )
-    requires { ⌜ check first n (now table) ≡ Passed ⌝ }
-    requires { ⌜ round ≤ 1400 ⌝ }
+    requires { ⌜ Ready first n (now table) (now work) ⌝ }
+    requires { ⌜ round ≤ lastRound ⌝ }
     requires { ⌜ e ≤ b + 127 ⌝ }
-    requires { ⌜ records first (now table) ≤ length (now marks) ⌝ }
-    ensures { λ r. ⌜ Tagged (vertices first (now (table .entry))) (round + 2) (λ w. windowTag (certifiedAt n (vertices first (now (table .entry))) round leader w) b e) (now (marks .entry)) (now (marks .exit)) ⌝ }
+    ensures { λ r. ⌜ Tagged (verticesOf (now (table .entry))) (round + 2) (λ w. windowTag (certifiedAt n (verticesOf (now (table .entry))) round leader w) b e) (now (work .entry)) (now (work .exit)) ⌝ }
 {
-    let end = begin(table, round + 3, 0);
-    let mut w = begin(table, round + 2, 0);
+    let end = begin(n, table, round + 3, 0);
+    let mut w = begin(n, table, round + 2, 0);
     while w < end {
         let p = certified_at(n, table, w, round, leader);
-        marks[w] = with_tag(marks[w], window_tag(p, b, e));
+        work[w] = with_tag(work[w], window_tag(p, b, e));
         w += 1;
     }
 }
 
 // How many bytes from one position up to another have the tag.
-fn count_tagged(marks: &[u8], from: usize, to: usize, tag: u8) -> usize
+fn count_tagged(work: &[u8], from: usize, to: usize, tag: u8) -> usize
     requires { ⌜ from ≤ to ⌝ }
-    requires { ⌜ to ≤ length (now marks) ⌝ }
-    ensures { λ r. ⌜ r ≡ countTo (λ i. eqb (tagAt (now (marks .entry)) (from + i)) tag) (to - from) ⌝ }
+    requires { ⌜ to ≤ length (now work) ⌝ }
+    ensures { λ r. ⌜ r ≡ countTo (λ i. eqb (tagAt (now (work .entry)) (from + i)) tag) (to - from) ⌝ }
 {
     let mut c: usize = 0;
     let mut q = from;
     while q < to {
-        if marks[q] % 128 == tag {
+        if work[q] % 128 == tag {
             c += 1;
         }
         q += 1;
@@ -103,17 +99,16 @@ fn count_tagged(marks: &[u8], from: usize, to: usize, tag: u8) -> usize
 }
 
 // How many different authors have a vertex of the round with the tag.
-pub(crate) fn authors_tagged(n: u8, table: &[u8], round: u32, tag: u8, marks: &[u8]) -> usize
-    requires { ⌜ check first n (now table) ≡ Passed ⌝ }
-    requires { ⌜ records first (now table) ≤ length (now marks) ⌝ }
-    ensures { λ r. ⌜ r ≡ authorsTagged n (vertices first (now (table .entry))) round tag (now (marks .entry)) ⌝ }
+pub(crate) fn authors_tagged(n: u8, table: &[u8], round: u32, tag: u8, work: &[u8]) -> usize
+    requires { ⌜ Ready first n (now table) (now work) ⌝ }
+    ensures { λ r. ⌜ r ≡ authorsTagged n (verticesOf (now (table .entry))) round tag (now (work .entry)) ⌝ }
 {
     let mut c: usize = 0;
     let mut a: u8 = 0;
     while a < n {
-        let from = begin(table, round, a);
-        let to = begin(table, round, a + 1);
-        c += once(count_tagged(marks, from, to, tag));
+        let from = begin(n, table, round, a);
+        let to = begin(n, table, round, a + 1);
+        c += once(count_tagged(work, from, to, tag));
         a += 1;
     }
     c

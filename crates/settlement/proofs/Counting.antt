@@ -16,14 +16,12 @@ use Rattle.folds.proofs.Laws.{first-by, any-none, any-witness, any-intro, count
 use Rattle.folds.proofs.Lists.{getD-tabulate, tabulate-same}
 use Rattle.rules.specs.declared.Name.{Name}
 use Rattle.rules.specs.declared.Vertex.{Vertex}
-use Rattle.rules.specs.declared.Checked.the-variants.{Passed}
-use Rattle.rules.specs.Record.{first, decode, records, vertices, at, nameOf, below}
-use Rattle.rules.specs.Check.{check}
+use Rattle.rules.specs.Record.{first, recordAt, decode, vertices, at, nameOf, below}
 use Rattle.rules.specs.Settlement.{equivocates, equivocators}
 use Rattle.rules.proofs.Names.{Below, is-below, below-round, below-mark}
-use Rattle.rules.proofs.Records.{vertices-length, vertices-at}
-use Rattle.rules.proofs.Accepted.{Accepted, accepted, author-low, rising}
-use Rattle.table.proofs.Names.{record-part, name-at, lentPart}
+use Rattle.rules.proofs.Records.{vertices-length}
+use Rattle.rules.proofs.Accepted.{Accepted, author-low, rising}
+use Rattle.table.proofs.Names.{name-at}
 use Rattle.folds.proofs.Over.{or-last, set-tabulate}
 
 -- ---- a search from below
@@ -116,18 +114,19 @@ module _ {n : ℕ} {vs : List Vertex} (A : Accepted n vs) where
 
 -- ---- the names of two neighbours, as they are read
 
-module _ (t : List ℕ) (p : ℕ) (x y : Name) (l : p + 1 < records first t) (is-x : x ≡ nameOf (decode first (lentPart t p))) (is-y : y ≡ nameOf (decode first (lentPart t (p + 1)))) where
-  named-at : (q : ℕ) (z : Name) → q < records first t → z ≡ nameOf (decode first (lentPart t q)) → nameOf (at (vertices first t) q) ≡ z
-  named-at q z h e = name-at t q h ∙ ap (λ b. nameOf (decode first b)) (sym (record-part t q)) ∙ sym e
+-- the name in a record's part
+pub named-at : (t : List ℕ) (q : ℕ) (b : List ℕ) (z : Name) → q < length (vertices first t) → b ≡ recordAt first t q → z ≡ nameOf (decode first b) → z ≡ nameOf (at (vertices first t) q)
+named-at t q b z h p e = e ∙ ap (λ x. nameOf (decode first x)) p ∙ sym (name-at t q (rw (← vertices-length first t) h))
 
-  sides : side (vertices first t) p ≡ eqb (x .round) (y .round) and eqb (x .author) (y .author)
-  sides = ap₂ (λ (v w : Name). eqb (v .round) (w .round) and eqb (v .author) (w .author)) (named-at p x (omega arith) is-x) (named-at (p + 1) y l is-y)
+module _ (vs : List Vertex) (p : ℕ) (x y : Name) (is-x : x ≡ nameOf (at vs p)) (is-y : y ≡ nameOf (at vs (p + 1))) where
+  sides : side vs p ≡ eqb (x .round) (y .round) and eqb (x .author) (y .author)
+  sides = ap₂ (λ (v w : Name). eqb (v .round) (w .round) and eqb (v .author) (w .author)) (sym is-x) (sym is-y)
 
-  pub other-rounds : x .round ≢ y .round → false ≡ side (vertices first t) p
+  pub other-rounds : x .round ≢ y .round → false ≡ side vs p
   unfolding _and_
   other-rounds d = sym (sides ∙ rw (ne-eqb _ _ d))
 
-  pub same-rounds : x .round ≡ y .round → eqb (x .author) (y .author) ≡ side (vertices first t) p
+  pub same-rounds : x .round ≡ y .round → eqb (x .author) (y .author) ≡ side vs p
   unfolding _and_
   same-rounds e = sym (sides ∙ rw (eq-eqb _ _ e))
 
@@ -166,16 +165,11 @@ module _ (vs : List Vertex) (p : ℕ) (l : 0 < p) where
 pub splits-end : {n : ℕ} {vs : List Vertex} → Accepted n vs → splits vs (length vs - 1) ≡ tabulate (λ a. bit (equivocates vs a)) 31
 splits-end {vs = vs} A = tabulate-same _ _ 31 (λ a h. ap bit (sym (split-is A a)))
 
--- byte 134 of a record is its author
-pub author-byte : (t : List ℕ) (p b : ℕ) → p < records first t → b ≡ getD (lentPart t p) 134 0 → b ≡ at (vertices first t) p .author
-unfolding decode
-author-byte t p b l e = e ∙ ap (λ r. getD r 134 0) (record-part t p) ∙ ap (λ (v : Vertex). v .author) (sym (vertices-at first t p l))
-
--- and below 31
-pub author-few : (n : ℕ) (t : List ℕ) (p b : ℕ) → check first n t ≡ Passed → p < records first t → b ≡ getD (lentPart t p) 134 0 → b < 31
-author-few n t p b passed l e =
-    let A = accepted first n t passed in
-    omega (arith, A .few, author-low A p (rw (vertices-length first t) l), author-byte t p b l e)
+-- the author in a record's name
+pub author-few : {n : ℕ} {vs : List Vertex} → Accepted n vs → (p : ℕ) (x : Name) → p < length vs → x ≡ nameOf (at vs p) → x .author < 31
+author-few {n} {vs} A p x l e =
+    let is : x .author ≡ at vs p .author = ap (λ (y : Name). y .author) e in
+    omega (arith, is, author-low A p l, A .few)
 
 -- ---- how many they are
 

@@ -1,3 +1,6 @@
+pub mod Places
+pub mod Marking
+pub mod Downward
 pub mod Writing
 pub mod Counting
 pub mod Ordered

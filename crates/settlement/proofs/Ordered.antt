@@ -20,18 +20,18 @@ use Rattle.folds.proofs.Lists.{filter-length, filter-sound, filter-complete, me
 use Rattle.rules.specs.declared.Vertex.{Vertex}
 use Rattle.rules.specs.Record.{at, nameOf}
 use Rattle.rules.specs.Decision.{Decision, undecided, skipped, committed, cell}
-use Rattle.rules.specs.Support.{references}
 use Rattle.rules.specs.History.{StepRule, history}
-use Rattle.rules.specs.Decide.{boxSetting, highest, decisions, decisionAt}
+use Rattle.rules.specs.Decide.{Setting, boxSetting, highest, decisions, decisionAt}
 use Rattle.rules.specs.Order.{notYet, writeFrom, order}
 use Rattle.rules.specs.Settlement.{writtenOver, takenBytes}
 use Rattle.rules.proofs.Accepted.{Accepted}
 use Rattle.rules.proofs.Decide.{decisions-length, leads}
 use Rattle.rules.proofs.Highest.{one-later}
-use Rattle.settlement.specs.Write.{placesOver, written, Told, fresh, Led}
-use Rattle.decide.proofs.Sweeps.{history-size, history-past, history-low, history-step}
+use Rattle.settlement.specs.Write.{placesOver, written, Told, fresh, Led, Ordered}
+use Rattle.decide.proofs.Marked.{Walks, history-size, history-past, history-low, history-step}
 use Rattle.folds.proofs.Over.{over-at, over-length, over-same, over-over, over-none}
-use Rattle.settlement.proofs.Writing.{places-over, filter-same}
+use Rattle.settlement.proofs.Places.{places-over}
+use Rattle.settlement.proofs.Writing.{filter-same}
 
 -- ---- the slots that are left
 
@@ -118,14 +118,14 @@ count-or t u (suc k) = omega (arith, bit-or (t k) (u k), count-or t u k)
 
 -- ---- what is written when the slots before s are gone through
 
-pub record Upto (n : ℕ) (vs : List Vertex) (o m : List ℕ) (s count : ℕ) (o′ m′ : List ℕ) : Type 0 where
+pub record Upto (C : Setting) (n : ℕ) (vs : List Vertex) (o m : List ℕ) (s count : ℕ) (o′ m′ : List ℕ) : Type 0 where
   pub so-far : List ℕ
-  pub rest : writeFrom references vs so-far (drop s (decisions (boxSetting n) n vs)) ≡ order (boxSetting n) n vs
+  pub rest : writeFrom (C .step) vs so-far (drop s (decisions C n vs)) ≡ order C n vs
   pub counted : count ≡ length so-far
   pub places : o′ ≡ writtenOver so-far o
   pub bytes : m′ ≡ bytesOver (λ q. bit (member q so-far)) (length vs) m
   pub within : (q : ℕ) → member q so-far ≡ true → q < length vs
-  pub closed : (p q : ℕ) → p < length vs → q < length vs → member p so-far ≡ true → references (at vs p) (nameOf (at vs q)) ≡ true → member q so-far ≡ true
+  pub closed : (p q : ℕ) → p < length vs → q < length vs → member p so-far ≡ true → C .step (at vs p) (nameOf (at vs q)) ≡ true → member q so-far ≡ true
   pub once : length so-far ≡ countTo (λ q. member q so-far) (length vs)
   pub kept : length m′ ≡ length m
   pub kept-places : length o′ ≡ length o
@@ -139,9 +139,9 @@ bit-one true = refl
 bit-one false = refl
 
 -- none is written
-pub upto-start : (n : ℕ) (vs : List Vertex) (o m : List ℕ) → length vs ≤ length m → ((q : ℕ) → q < length vs → getD m q 0 ≡ 0) → Upto n vs o m 0 0 o m
+pub upto-start : (C : Setting) (n : ℕ) (vs : List Vertex) (o m : List ℕ) → length vs ≤ length m → ((q : ℕ) → q < length vs → getD m q 0 ≡ 0) → Upto C n vs o m 0 0 o m
 unfolding order member
-upto-start n vs o m l z = record {
+upto-start C n vs o m l z = record {
   so-far = [];
   rest = refl;
   counted = refl;
@@ -154,12 +154,12 @@ upto-start n vs o m l z = record {
   kept-places = refl;
 }
 
-module _ {n : ℕ} {vs : List Vertex} {o m : List ℕ} {s count : ℕ} {o′ m′ : List ℕ} (A : Accepted n vs) (room : length vs ≤ length m) (wide : length vs ≤ length o) (U : Upto n vs o m s count o′ m′) where
+module _ {C : Setting} {n : ℕ} {vs : List Vertex} {o m : List ℕ} {s count : ℕ} {o′ m′ : List ℕ} (A : Accepted n vs) (W : Walks (C .step) vs) (room : length vs ≤ length m) (wide : length vs ≤ length o) (U : Upto C n vs o m s count o′ m′) where
   abbrev w : List ℕ
   w = U .so-far
 
   abbrev ds : List (Decision ℕ)
-  ds = decisions (boxSetting n) n vs
+  ds = decisions C n vs
 
   byte : (q : ℕ) → q < length vs → getD m′ q 0 ≡ bit (member q w)
   byte q lq = ap (λ b. getD b q 0) (U .bytes) ∙ over-at (λ i. bit (member i w)) (length vs) m q lq
@@ -168,7 +168,7 @@ module _ {n : ℕ} {vs : List Vertex} {o m : List ℕ} {s count : ℕ} {o′ m�
   written-is q lq = ap (λ x. eqb x 1) (byte q lq) ∙ bit-one (member q w)
 
   -- the bytes tell it
-  pub upto-told : Told vs m′
+  pub upto-told : Told (C .step) vs m′
   upto-told = record {
     low = λ q lq. omega (arith, byte q lq, bit-low (member q w));
     closed = λ p q lp lq e r. eqb-true _ _ (written-is q lq ∙ U .closed p q lp lq (sym (written-is p lp) ∙ eq-eqb _ _ e) r);
@@ -178,10 +178,10 @@ module _ {n : ℕ} {vs : List Vertex} {o m : List ℕ} {s count : ℕ} {o′ m�
   upto-count = U .counted ∙ U .once ∙ count-same _ _ (length vs) (λ q lq. sym (written-is q lq))
 
   -- the next one is skipped
-  pub upto-skip : s < highest vs → decisionAt ds s ≡ skipped → Upto n vs o m (s + 1) count o′ m′
+  pub upto-skip : s < length (decisions C n vs) → decisionAt ds s ≡ skipped → Upto C n vs o m (s + 1) count o′ m′
   upto-skip l e = record {
     so-far = w;
-    rest = sym (rest-skip references vs w ds s (rw (decisions-length (boxSetting n) n vs) l) e) ∙ U .rest;
+    rest = sym (rest-skip (C .step) vs w ds s l e) ∙ U .rest;
     counted = U .counted;
     places = U .places;
     bytes = U .bytes;
@@ -193,25 +193,25 @@ module _ {n : ℕ} {vs : List Vertex} {o m : List ℕ} {s count : ℕ} {o′ m�
   }
 
   -- it is committed with the vertex at a, whose history is written
-  module _ (a : ℕ) (la : a < length vs) (l : s < highest vs) (e : decisionAt ds s ≡ committed a) (count′ : ℕ) (o″ m″ : List ℕ) (L : Led vs a count o′ m′ count′ o″ m″) where
+  module _ (a : ℕ) (la : a < length vs) (l : s < length (decisions C n vs)) (e : decisionAt ds s ≡ committed a) (count′ : ℕ) (o″ m″ : List ℕ) (L : Led (C .step) vs a count o′ m′ count′ o″ m″) where
     abbrev belongs : ℕ → Bool
-    belongs q = getD (history references vs a) q false
+    belongs q = getD (history (C .step) vs a) q false
 
     abbrev new : ℕ → Bool
     new q = belongs q and not (member q w)
 
     abbrev next : List ℕ
-    next = w ++ notYet w (history references vs a)
+    next = w ++ notYet w (history (C .step) vs a)
 
-    not-yet : notYet w (history references vs a) ≡ filterTo new (suc a)
+    not-yet : notYet w (history (C .step) vs a) ≡ filterTo new (suc a)
     unfolding notYet
-    not-yet = rw (history-size A a la)
+    not-yet = rw (history-size A W a la)
 
-    fresh-is : fresh vs a m′ ≡ notYet w (history references vs a)
+    fresh-is : fresh (C .step) vs a m′ ≡ notYet w (history (C .step) vs a)
     fresh-is = filter-same _ _ (suc a) (λ q h. ap (λ x. belongs q and not x) (written-is q (omega arith))) ∙ sym not-yet
 
     new-past : (q : ℕ) → suc a ≤ q → new q ≡ false
-    new-past q h = failed _ (λ t. not-both (and-left _ _ t) (history-past A a la q h))
+    new-past q h = failed _ (λ t. not-both (and-left _ _ t) (history-past A W a la q h))
 
     -- a member of the next list is written already or new
     next-is : (q : ℕ) → member q next ≡ member q w or new q
@@ -225,11 +225,11 @@ module _ {n : ℕ} {vs : List Vertex} {o m : List ℕ} {s count : ℕ} {o′ m�
     member-next : (q : ℕ) → member q next ≡ member q w or belongs q
     member-next q = next-is q ∙ either (member q w) (belongs q)
 
-    long : length next ≡ length w + length (fresh vs a m′)
+    long : length next ≡ length w + length (fresh (C .step) vs a m′)
     long = length-append w _ ∙ ap (λ x. length w + length x) (sym fresh-is)
 
     places-next : o″ ≡ writtenOver next o
-    places-next = L .places ∙ ap₂ (λ c x. placesOver c (fresh vs a m′) x) (U .counted) (U .places) ∙ ap (λ x. placesOver (length w) x (writtenOver w o)) fresh-is ∙ places-over w _ o
+    places-next = L .places ∙ ap₂ (λ c x. placesOver c (fresh (C .step) vs a m′) x) (U .counted) (U .places) ∙ ap (λ x. placesOver (length w) x (writtenOver w o)) fresh-is ∙ places-over w _ o
 
     bytes-next : m″ ≡ bytesOver (λ q. bit (member q next)) (length vs) m
     bytes-next = L .bytes ∙ ap (bytesOver _ (length vs)) (U .bytes) ∙ over-over _ (length vs) m _ ∙ over-same _ (length vs) m _ (λ q lq. ap bit (ap (λ x. x or belongs q) (written-is q lq) ∙ sym (member-next q)))
@@ -237,7 +237,7 @@ module _ {n : ℕ} {vs : List Vertex} {o m : List ℕ} {s count : ℕ} {o′ m�
     once-next : length next ≡ countTo (λ q. member q next) (length vs)
     once-next =
         let cut : suc a + (length vs - suc a) ≡ length vs = omega arith in
-        let new-count : length (fresh vs a m′) ≡ countTo new (length vs) =
+        let new-count : length (fresh (C .step) vs a m′) ≡ countTo new (length vs) =
         ap length (fresh-is ∙ not-yet) ∙ filter-length new (suc a) ∙ sym (count-cut new (suc a) (length vs - suc a) (λ i h k. new-past i h)) ∙ ap (countTo new) cut
         in
         let both : countTo (λ q. member q next) (length vs) ≡ countTo (λ q. member q w) (length vs) + countTo new (length vs) =
@@ -245,16 +245,16 @@ module _ {n : ℕ} {vs : List Vertex} {o m : List ℕ} {s count : ℕ} {o′ m�
         in
         omega (arith, long, U .once)
 
-    pub upto-commit : Upto n vs o m (s + 1) count′ o″ m″
+    pub upto-commit : Upto C n vs o m (s + 1) count′ o″ m″
     upto-commit = record {
       so-far = next;
-      rest = sym (rest-commit references vs w ds s (rw (decisions-length (boxSetting n) n vs) l) a e) ∙ U .rest;
+      rest = sym (rest-commit (C .step) vs w ds s l a e) ∙ U .rest;
       counted = omega (arith, L .counted, U .counted, long);
       places = places-next;
       bytes = bytes-next;
-      within = λ q t. ⊎-elim (λ h. U .within q h) (λ h. omega (arith, history-low A a la q h)) (or-cases _ _ (sym (member-next q) ∙ t));
+      within = λ q t. ⊎-elim (λ h. U .within q h) (λ h. omega (arith, history-low A W a la q h)) (or-cases _ _ (sym (member-next q) ∙ t));
       closed = λ p q lp lq t r.
-          member-next q ∙ ⊎-elim (λ h. or-left _ _ (U .closed p q lp lq h r)) (λ h. or-right _ _ (history-step A a la p q lq h r)) (or-cases _ _ (sym (member-next p) ∙ t));
+          member-next q ∙ ⊎-elim (λ h. or-left _ _ (U .closed p q lp lq h r)) (λ h. or-right _ _ (history-step A W a la p q lq h r)) (or-cases _ _ (sym (member-next p) ∙ t));
       once = once-next;
       kept = ap length bytes-next ∙ over-length _ (length vs) m room;
       kept-places = ap length places-next ∙ written-length next o (omega (arith, once-next, count-low (λ q. member q next) (length vs)));
@@ -267,30 +267,29 @@ taken-over : (w : List ℕ) (k : ℕ) (old : List ℕ) → bytesOver (λ q. bit 
 unfolding bytesOver takenBytes
 taken-over w k old = rw (length-tabulate (λ q. bit (member q w)) k)
 
-pub record Ordered (n : ℕ) (vs : List Vertex) (o m : List ℕ) (count : ℕ) (o′ m′ : List ℕ) : Type 0 where
-  pub places : o′ ≡ writtenOver (order (boxSetting n) n vs) o
-  pub bytes : m′ ≡ writtenOver (takenBytes (order (boxSetting n) n vs) (length vs)) m
-  pub counted : count ≡ length (order (boxSetting n) n vs)
-
-module _ {n : ℕ} {vs : List Vertex} {o m₀ m : List ℕ} {s count : ℕ} {o′ m′ : List ℕ} (cleared : m ≡ bytesOver (λ q. 0) (length vs) m₀) (U : Upto n vs o m s count o′ m′) where
-  ordered : writeFrom references vs (U .so-far) (drop s (decisions (boxSetting n) n vs)) ≡ U .so-far → Ordered n vs o m₀ count o′ m′
+module _ {C : Setting} {n : ℕ} {vs : List Vertex} {o m₀ m : List ℕ} {s count : ℕ} {o′ m′ : List ℕ} (cleared : m ≡ bytesOver (λ q. 0) (length vs) m₀) (U : Upto C n vs o m s count o′ m′) where
+  ordered : writeFrom (C .step) vs (U .so-far) (drop s (decisions C n vs)) ≡ U .so-far → Ordered C n vs o m₀ count o′ m′
   ordered e =
-      let all : U .so-far ≡ order (boxSetting n) n vs = sym e ∙ U .rest in
+      let all : U .so-far ≡ order C n vs = sym e ∙ U .rest in
       record {
         places = U .places ∙ ap (λ x. writtenOver x o) all;
-        bytes = U .bytes ∙ ap (bytesOver _ (length vs)) cleared ∙ over-over _ (length vs) m₀ _ ∙ ap (λ x. bytesOver (λ q. bit (member q x)) (length vs) m₀) all ∙ taken-over (order (boxSetting n) n vs) (length vs) m₀;
+        bytes = U .bytes ∙ ap (bytesOver _ (length vs)) cleared ∙ over-over _ (length vs) m₀ _ ∙ ap (λ x. bytesOver (λ q. bit (member q x)) (length vs) m₀) all ∙ taken-over (order C n vs) (length vs) m₀;
         counted = U .counted ∙ ap length all;
       }
 
   -- the next slot is undecided
-  pub upto-stop : s < highest vs → decisionAt (decisions (boxSetting n) n vs) s ≡ undecided → Ordered n vs o m₀ count o′ m′
-  upto-stop l e = ordered (rest-stop references vs (U .so-far) (decisions (boxSetting n) n vs) s (rw (decisions-length (boxSetting n) n vs) l) e)
+  pub upto-stop : s < length (decisions C n vs) → decisionAt (decisions C n vs) s ≡ undecided → Ordered C n vs o m₀ count o′ m′
+  upto-stop l e = ordered (rest-stop (C .step) vs (U .so-far) (decisions C n vs) s l e)
 
   -- no slot is left
-  pub upto-end : highest vs ≤ s → Ordered n vs o m₀ count o′ m′
-  upto-end h = ordered (rest-end references vs (U .so-far) (decisions (boxSetting n) n vs) s (rw (decisions-length (boxSetting n) n vs) h))
+  pub upto-end : length (decisions C n vs) ≤ s → Ordered C n vs o m₀ count o′ m′
+  upto-end h = ordered (rest-end (C .step) vs (U .so-far) (decisions C n vs) s h)
 
 -- ---- the leader vertex of a cell
+
+-- a slot of the box is a round
+pub slot-low : (n : ℕ) (vs : List Vertex) {s : ℕ} → s < highest vs → s < length (decisions (boxSetting n) n vs)
+slot-low n vs l = rw (decisions-length (boxSetting n) n vs) l
 
 pub cell-leader : {n : ℕ} {vs : List Vertex} → Accepted n vs → (s c : ℕ) → c ≡ cell (decisionAt (decisions (boxSetting n) n vs) s) → c ≢ 0 → c ≢ 1
     → (decisionAt (decisions (boxSetting n) n vs) s ≡ committed (c - 2)) × (c - 2 < length vs)

@@ -1,13 +1,13 @@
 -- What the settlement promises, by its three ways out: the table's refusal, a lent buffer that is too short, and a settled table.
 -- Assumes nothing.
-use Prim.Native.Nat.{ℕ, zero, suc, _+_, _-_, _≤_, _<_}
+use Prim.Native.Nat.{ℕ, zero, suc, _+_, _≤_, _<_}
 use mathlib.Core.Path.{_≡_, refl, sym, ap, _∙_}
 use mathlib.Core.Bool.{Bool, false}
 use mathlib.Core.List.{List, [], _∷_, _++_, map}
 use native.Mathlib.Omega.{arith}
 use native.Mathlib.Nat.{le-refl, le-of-suc-le-suc, not-suc-le-zero}
 use lib.Dec.{eqb}
-use lib.ListN.{length, getD, take, drop, length-append, length-drop, length-map, List·getD-append, List·getD-map}
+use lib.ListN.{length, getD, drop, length-append, length-drop, length-map, List·getD-append, List·getD-map}
 use lib.Seq.{drop-at}
 use borrow.Author.Tests.{ne-eqb, ltb-false}
 use Rattle.folds.specs.Folds.{firstTo, tabulate, bytesOver}
@@ -21,7 +21,6 @@ use Rattle.rules.specs.declared.Counts.{Counts}
 use Rattle.rules.specs.declared.Outcome.the-variants as outcome
 use Rattle.rules.specs.declared.Settlement.{Settlement}
 use Rattle.rules.specs.Record.{first, records, vertices}
-use Rattle.rules.specs.Refusals.{_when_, _then_}
 use Rattle.rules.specs.Check.{check}
 use Rattle.rules.specs.Decision.{Decision, undecided, skipped, committed, cell}
 use Rattle.rules.specs.Decide.{boxSetting, highest, decisions, decisionAt}
@@ -31,6 +30,8 @@ use Rattle.rules.proofs.Refusals.{then-both, when-passed}
 use Rattle.rules.proofs.Records.{vertices-length}
 use Rattle.rules.proofs.Decide.{decisions-length}
 use Rattle.folds.proofs.Over.{over-over, over-length}
+use Rattle.decide.proofs.Passed.{sound}
+use Rattle.settlement.specs.Write.{Decided}
 use Rattle.decide.specs.Promise.{DecidesTo, cellsAfter, takenAfter}
 use Rattle.settlement.specs.Promise.{SettlesTo}
 
@@ -104,46 +105,54 @@ module _ (n : ℕ) (t : List ℕ) (b : Buffers) where
     ds = decisions (boxSetting n) n vs
 
     -- every decision is in its cell
-    pub decided-cells : cells ≡ writtenOver (map cell ds) (b .cells)
+    decided-cells : cells ≡ writtenOver (map cell ds) (b .cells)
     unfolding cellsAfter
     decided-cells = D .in-cells
 
     -- nothing is taken yet
-    pub untaken : taken ≡ bytesOver (λ p. 0) (records first t) (b .taken)
+    untaken : taken ≡ bytesOver (λ p. 0) (records first t) (b .taken)
     unfolding takenAfter
     untaken = D .in-taken
 
-    pub passes : check first n t ≡ Passed
+    passes : check first n t ≡ Passed
     passes = then-both _ _ (sym (D .answer)) .0
 
     long-enough : tooShort (boxSetting n) vs b ≡ false
     long-enough = when-passed _ _ (then-both _ _ (sym (D .answer)) .1)
 
-    pub slots : highest vs ≤ length (b .cells)
+    slots : highest vs ≤ length (b .cells)
     unfolding tooShort
     slots = ltb-false _ _ (or-neither _ _ long-enough .0)
 
-    pub places : length vs ≤ length (b .order)
+    places : length vs ≤ length (b .order)
     unfolding tooShort
     places = ltb-false _ _ (or-neither _ _ (or-neither _ _ long-enough .1) .0)
 
-    pub bytes : length vs ≤ length (b .taken)
+    bytes : length vs ≤ length (b .taken)
     unfolding tooShort
     bytes = ltb-false _ _ (or-neither _ _ (or-neither _ _ long-enough .1) .1)
 
     -- so they may be said of what `decide` leaves, too
-    pub none-taken : taken ≡ bytesOver (λ p. 0) (records first t) taken
-    none-taken = untaken ∙ sym (ap (bytesOver (λ p. 0) (records first t)) untaken ∙ over-over (λ p. 0) (records first t) (b .taken) (λ p. 0))
+    none-taken : taken ≡ bytesOver (λ p. 0) (length vs) taken
+    none-taken = rw (vertices-length first t) (untaken ∙ sym (ap (bytesOver (λ p. 0) (records first t)) untaken ∙ over-over (λ p. 0) (records first t) (b .taken) (λ p. 0)))
 
-    pub room : records first t ≤ length taken
+    room : length vs ≤ length taken
     room = let e = vertices-length first t in omega (arith, bytes, ap length untaken ∙ over-length (λ p. 0) (records first t) (b .taken) (omega (arith, bytes)))
 
     -- what the cells hold
-    pub held : (s : ℕ) → s < highest vs → getD cells s 0 ≡ cell (decisionAt ds s)
+    held : (s : ℕ) → s < highest vs → getD cells s 0 ≡ cell (decisionAt ds s)
     held s l = ap (λ c. getD c s 0) decided-cells ∙ cell-at ds (b .cells) s (rw (decisions-length (boxSetting n) n vs) l)
 
-    pub wide : highest vs ≤ length cells
+    wide : highest vs ≤ length cells
     wide = let e = decisions-length (boxSetting n) n vs in omega (arith, slots, ap length decided-cells ∙ cells-length ds (b .cells) (omega (arith, slots)))
+
+    -- all that the order is written from
+    pub decided : Decided (boxSetting n) first n t cells (b .order) taken
+    decided = record {
+      fits = record { ready = record { sound = sound first n t passes; room = room }; places = places };
+      in-cells = record { slots = wide; held = λ s _ l. held s l };
+      cleared = none-taken;
+    }
 
     -- those past the records are as before
     past-records : (w : List ℕ) → writtenOver (takenBytes w (length vs)) taken ≡ writtenOver (takenBytes w (length vs)) (b .taken)

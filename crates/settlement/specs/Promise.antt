@@ -6,7 +6,7 @@ use mathlib.Core.List.{List}
 use Rattle.rules.specs.declared.Settlement.{Settlement}
 use Rattle.rules.specs.Record.{first}
 use Rattle.rules.specs.Decide.{boxSetting}
-use Rattle.rules.specs.Settlement.{Buffers, Settles, settle}
+use Rattle.rules.specs.Settlement.{Buffers, settle}
 
 pub record SettlesTo (n : ℕ) (t : List ℕ) (before : Buffers) (r : Settlement) (after : Buffers) : Type 0 where
   pub outcome : r .outcome ≡ settle (boxSetting n) first n t before .outcome

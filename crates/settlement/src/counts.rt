@@ -1,14 +1,12 @@
 // The counts of a settled table.
 ghost use mathlib.Core.Path.{_≡_};
-ghost use Prim.Native.Nat.{ℕ, _+_, _-_, _<_, _≤_};
+ghost use Prim.Native.Nat.{_+_, _-_, _<_, _≤_};
 ghost use lib.Dec.{eqb};
 ghost use lib.ListN.{length, getD};
 ghost use Rattle.folds.specs.Folds.{_and_, bit, firstTo, countTo, tabulate};
-ghost use Rattle.rules.specs.declared.Checked.the-variants.{Passed};
-ghost use Rattle.rules.specs.Record.{first, records, vertices, at};
-ghost use Rattle.rules.specs.Check.{check};
+ghost use Rattle.rules.specs.Record.{first, at};
 ghost use Rattle.rules.specs.Settlement.{equivocates, equivocators};
-use record::RECORD;
+ghost use Rattle.decide.specs.Ready.{verticesOf, recordsOf, Sound};
 
 // The first slot whose cell is 0, counted from 1; past the last if there is none.
 pub(crate) fn first_undecided(cells: &[u32], top: usize) -> usize
@@ -27,11 +25,11 @@ pub(crate) fn first_undecided(cells: &[u32], top: usize) -> usize
 
 // The records at p and after it are of one author and one round.
 fn twins(table: &[u8], p: usize) -> bool
-    requires { ⌜ p + 1 < records first (now table) ⌝ }
-    ensures { λ r. ⌜ r ≡ eqb (at (vertices first (now (table .entry))) p .round) (at (vertices first (now (table .entry))) (p + 1) .round) and eqb (at (vertices first (now (table .entry))) p .author) (at (vertices first (now (table .entry))) (p + 1) .author) ⌝ }
+    requires { ⌜ p + 1 < recordsOf (now table) ⌝ }
+    ensures { λ r. ⌜ r ≡ eqb (at (verticesOf (now (table .entry))) p .round) (at (verticesOf (now (table .entry))) (p + 1) .round) and eqb (at (verticesOf (now (table .entry))) p .author) (at (verticesOf (now (table .entry))) (p + 1) .author) ⌝ }
 {
-    let x = record::name_of(&table[RECORD * p..RECORD * p + RECORD]);
-    let y = record::name_of(&table[RECORD * (p + 1)..RECORD * (p + 1) + RECORD]);
+    let x = record::name_of(record::part(table, p));
+    let y = record::name_of(record::part(table, p + 1));
     if x.round != y.round {
         return false;
     }
@@ -40,16 +38,16 @@ fn twins(table: &[u8], p: usize) -> bool
 
 // 1 for each author that has two records in some one round. Names rise, so two such records stand side by side.
 fn split_authors(n: u8, table: &[u8]) -> [u8; 31]
-    requires { ⌜ check first n (now table) ≡ Passed ⌝ }
-    ensures { λ r. ⌜ r ≡ tabulate (λ a. bit (equivocates (vertices first (now (table .entry))) a)) 31 ⌝ }
+    requires { ⌜ Sound first n (now table) ⌝ }
+    ensures { λ r. ⌜ r ≡ tabulate (λ a. bit (equivocates (verticesOf (now (table .entry))) a)) 31 ⌝ }
 {
     let mut split = [0u8; 31];
-    let k = table.len() / RECORD;
+    let k = record::records_of(table);
     let mut p: usize = 1;
     while p < k {
         if twins(table, p - 1) {
-            let a = record::byte_at(&table[RECORD * p..RECORD * p + RECORD], 134) as usize;
-            split[a] = 1;
+            let x = record::name_of(record::part(table, p));
+            split[x.author as usize] = 1;
         }
         p += 1;
     }
@@ -72,8 +70,8 @@ fn count_ones(split: [u8; 31], n: usize) -> usize
 }
 
 pub(crate) fn equivocators_of(n: u8, table: &[u8]) -> usize
-    requires { ⌜ check first n (now table) ≡ Passed ⌝ }
-    ensures { λ r. ⌜ r ≡ equivocators n (vertices first (now (table .entry))) ⌝ }
+    requires { ⌜ Sound first n (now table) ⌝ }
+    ensures { λ r. ⌜ r ≡ equivocators n (verticesOf (now (table .entry))) ⌝ }
 {
     count_ones(split_authors(n, table), n as usize)
 }

@@ -1,9 +1,7 @@
 // The settlement: the decisions, the written order and the counts of a table, in lent buffers.
 ghost use mathlib.Core.Path.{_≡_};
-ghost use Rattle.rules.specs.Record.{first};
 ghost use Rattle.rules.specs.Settlement.{lent};
 ghost use Rattle.settlement.specs.Promise.{SettlesTo};
-use record::RECORD;
 use rules::Checked;
 use rules::Counts;
 use rules::Outcome;
@@ -40,7 +38,7 @@ pub fn settle(
     let top = highest as usize;
     let written = order::write_order(n, table, top, cells, order, taken);
     let counts = Counts {
-        records: table.len() / RECORD,
+        records: record::records_of(table),
         highest,
         undecided: counts::first_undecided(cells, top) as u32,
         written,

@@ -4,18 +4,13 @@ ghost use mathlib.Core.Bool.{cond};
 ghost use Prim.Native.Nat.{ℕ, _+_, _<_, _≤_};
 ghost use lib.ListN.{length, getD};
 ghost use Rattle.folds.specs.Folds.{countTo, filterTo};
-ghost use Rattle.rules.specs.declared.Checked.the-variants.{Passed};
-ghost use Rattle.rules.specs.Record.{first, records, vertices};
-ghost use Rattle.rules.specs.Check.{check};
-ghost use Rattle.rules.specs.Decision.{cell};
-ghost use Rattle.rules.specs.Decide.{boxSetting, highest, decisions, decisionAt};
-ghost use Rattle.rules.specs.Order.{order as orderOf};
-ghost use Rattle.rules.specs.Settlement.{writtenOver, takenBytes};
+ghost use Rattle.rules.specs.Record.{first};
+ghost use Rattle.rules.specs.Support.{references};
+ghost use Rattle.rules.specs.Decide.{boxSetting, highest};
 ghost use Rattle.folds.specs.Folds.{bytesOver};
-ghost use Rattle.settlement.specs.Write.{placesOver, written, due, Told, MarkedOne, MarkedMore, MarkedDown, Led};
-use record::RECORD;
-use rules::Name;
-use table::find;
+ghost use Rattle.decide.specs.Ready.{verticesOf, recordsOf, Ready};
+ghost use Rattle.settlement.specs.Write.{Fits, Decided, placesOver, written, due, Told, MarkedOne, MarkedMore, MarkedDown, Led, Ordered};
+use references::places_of;
 
 // A position is marked unless it is written or marked already. Answers it if it is marked here and lower than `low`, and else `low`.
 fn mark_one(q: usize, low: usize, taken: &mut [u8]) -> usize
@@ -32,25 +27,18 @@ fn mark_one(q: usize, low: usize, taken: &mut [u8]) -> usize
 // What the vertex at p references is to be written, unless it is written or marked already. Answers the lowest position marked here, or
 // `low` if that is lower.
 fn mark_more(n: u8, table: &[u8], p: usize, low: usize, taken: &mut [u8]) -> usize
-    requires { ⌜ check first n (now table) ≡ Passed ⌝ }
-    requires { ⌜ p < records first (now table) ⌝ }
-    requires { ⌜ records first (now table) ≤ length (now taken) ⌝ }
-    ensures { λ r. ⌜ MarkedMore (vertices first (now (table .entry))) p low (now (taken .entry)) r (now (taken .exit)) ⌝ }
+    requires { ⌜ Ready first n (now table) (now taken) ⌝ }
+    requires { ⌜ p < recordsOf (now table) ⌝ }
+    ensures { λ r. ⌜ MarkedMore references (verticesOf (now (table .entry))) p low (now (taken .entry)) r (now (taken .exit)) ⌝ }
 {
-    let v = record::decode(&table[RECORD * p..RECORD * p + RECORD]);
-    let refs = v.refs;
+    let places = places_of(table, p);
     let k = n as usize;
     let mut lowest = low;
     let mut i: usize = 0;
     while i < k {
-        let mark = refs[i];
-        if mark != 0 {
-            let x = Name {
-                round: v.round - 1,
-                author: i as u8,
-                mark,
-            };
-            lowest = mark_one(find(table, p, x), lowest, taken);
+        let q = places[i];
+        if q < p {
+            lowest = mark_one(q, lowest, taken);
         }
         i += 1;
     }
@@ -59,11 +47,10 @@ fn mark_more(n: u8, table: &[u8], p: usize, low: usize, taken: &mut [u8]) -> usi
 
 // What is to be written for the leader vertex at a is marked, from it downward, as far as anything is marked. Answers how far.
 fn mark_down(n: u8, table: &[u8], a: usize, taken: &mut [u8]) -> usize
-    requires { ⌜ check first n (now table) ≡ Passed ⌝ }
-    requires { ⌜ a < records first (now table) ⌝ }
-    requires { ⌜ records first (now table) ≤ length (now taken) ⌝ }
-    requires { ⌜ Told (vertices first (now table)) (now taken) ⌝ }
-    ensures { λ r. ⌜ MarkedDown (vertices first (now (table .entry))) a (now (taken .entry)) r (now (taken .exit)) ⌝ }
+    requires { ⌜ Ready first n (now table) (now taken) ⌝ }
+    requires { ⌜ a < recordsOf (now table) ⌝ }
+    requires { ⌜ Told references (verticesOf (now table)) (now taken) ⌝ }
+    ensures { λ r. ⌜ MarkedDown references (verticesOf (now (table .entry))) a (now (taken .entry)) r (now (taken .exit)) ⌝ }
 {
     let mut low = mark_one(a, a, taken);
     let mut p = a + 1;
@@ -109,13 +96,11 @@ fn write_leader(
     taken: &mut [u8],
     count: usize,
 ) -> usize
-    requires { ⌜ check first n (now table) ≡ Passed ⌝ }
-    requires { ⌜ a < records first (now table) ⌝ }
-    requires { ⌜ records first (now table) ≤ length (now order) ⌝ }
-    requires { ⌜ records first (now table) ≤ length (now taken) ⌝ }
-    requires { ⌜ Told (vertices first (now table)) (now taken) ⌝ }
-    requires { ⌜ count ≡ countTo (written (now taken)) (records first (now table)) ⌝ }
-    ensures { λ r. ⌜ Led (vertices first (now (table .entry))) a count (now (order .entry)) (now (taken .entry)) r (now (order .exit)) (now (taken .exit)) ⌝ }
+    requires { ⌜ Fits first n (now table) (now order) (now taken) ⌝ }
+    requires { ⌜ a < recordsOf (now table) ⌝ }
+    requires { ⌜ Told references (verticesOf (now table)) (now taken) ⌝ }
+    requires { ⌜ count ≡ countTo (written (now taken)) (recordsOf (now table)) ⌝ }
+    ensures { λ r. ⌜ Led references (verticesOf (now (table .entry))) a count (now (order .entry)) (now (taken .entry)) r (now (order .exit)) (now (taken .exit)) ⌝ }
 {
     let low = mark_down(n, table, a, taken);
     write_marked(a, low, order, taken, count)
@@ -130,16 +115,9 @@ pub(crate) fn write_order(
     order: &mut [u32],
     taken: &mut [u8],
 ) -> usize
-    requires { ⌜ check first n (now table) ≡ Passed ⌝ }
-    requires { ⌜ top ≡ highest (vertices first (now table)) ⌝ }
-    requires { ⌜ top ≤ length (now cells) ⌝ }
-    requires { ⌜ ((t : ℕ) → t < top → getD (now cells) t 0 ≡ cell (decisionAt (decisions (boxSetting n) n (vertices first (now table))) t)) ⌝ }
-    requires { ⌜ records first (now table) ≤ length (now order) ⌝ }
-    requires { ⌜ records first (now table) ≤ length (now taken) ⌝ }
-    requires { ⌜ now taken ≡ bytesOver (λ q. 0) (records first (now table)) (now taken) ⌝ }
-    ensures { λ r. ⌜ now (order .exit) ≡ writtenOver (orderOf (boxSetting n) n (vertices first (now (table .entry)))) (now (order .entry)) ⌝ }
-    ensures { λ r. ⌜ now (taken .exit) ≡ writtenOver (takenBytes (orderOf (boxSetting n) n (vertices first (now (table .entry)))) (length (vertices first (now (table .entry))))) (now (taken .entry)) ⌝ }
-    ensures { λ r. ⌜ r ≡ length (orderOf (boxSetting n) n (vertices first (now (table .entry)))) ⌝ }
+    requires { ⌜ Decided (boxSetting n) first n (now table) (now cells) (now order) (now taken) ⌝ }
+    requires { ⌜ top ≡ highest (verticesOf (now table)) ⌝ }
+    ensures { λ r. ⌜ Ordered (boxSetting n) n (verticesOf (now (table .entry))) (now (order .entry)) (now (taken .entry)) r (now (order .exit)) (now (taken .exit)) ⌝ }
 {
     let mut count: usize = 0;
     let mut s: usize = 0;

@@ -1,6 +1,6 @@
 -- `settlement::settle` meets its contract: the refusal that `decide` answers, or a settled table.
 -- Assumes nothing.
-use Prim.Native.Nat.{ℕ, _≤_, _<_}
+use Prim.Native.Nat.{ℕ, _<_}
 use mathlib.Core.Path.{_≡_, refl, sym, _∙_}
 use native.Mathlib.Omega.{arith}
 use lib.Dec.{eqb}
@@ -16,7 +16,6 @@ use Rattle.rules.specs.Settlement.{lent}
 use Rattle.rules.proofs.Records.{vertices-length}
 use Rattle.rules.proofs.Decide.{decisions-length}
 use Rattle.decide.specs.Promise.{DecidesTo}
-use Rattle.decide.proofs.InCells.{highest-limit}
 use Rattle.settlement.proofs.Settled.{open-low, open-cell, counts-are}
 use Rattle.settlement.proofs.Settled as settled
 use borrow.Author.Needs.{needs}
@@ -34,64 +33,34 @@ returns c =
 write-order-requires : tie.Need-write-order-requires
 write-order-requires c κs =
     let h = c .before .before .before in
-    let k = h .before .before .before .before .before .before .before in
-    let g = k .before .before .before .before .before .before .before .before in
-    let n = g .args .n in
-    let t = g .args .table .now in
-    let b = lent (g .args .cells .now) (g .args .order .now) (g .args .taken .now) in
-    let cells = k .decide .last .1 .1 .0 in
-    let taken = k .decide .last .1 .1 .1 .1 .0 in
-    let D : DecidesTo n t b Passed cells taken = rw (h .before .enum-told .given .1) at (k .decide .ensures) in
-    let top : h .highest-of .result ≡ highest (vertices first t) = h .highest-of .ensures in
-    let wide : h .highest-of .result ≤ length cells = omega (arith, top, settled.wide n t b cells taken D) in
-    let places : records first t ≤ length (b .order) = omega (arith, vertices-length first t, settled.places n t b cells taken D) in
-    (settled.passes n t b cells taken D, (top, (wide, ((λ j l. settled.held n t b cells taken D j (omega (arith, top))), (places, (settled.room n t b cells taken D, settled.none-taken n t b cells taken D))))))
+    let D = settled.decided _ _ _ _ _ (rw (h .before .enum-told .given .1) at (h .before .before .before .before .before .before .before .decide .ensures)) in
+    (D, h .highest-of .ensures)
 
 first-undecided-requires : tie.Need-first-undecided-requires
 first-undecided-requires c κs =
-    let h = c .before .before .before .before .before .before .before .before .before in
-    let k = h .before .before .before .before .before .before .before in
-    let g = k .before .before .before .before .before .before .before .before in
-    let n = g .args .n in
-    let t = g .args .table .now in
-    let b = lent (g .args .cells .now) (g .args .order .now) (g .args .taken .now) in
-    let cells = k .decide .last .1 .1 .0 in
-    let taken = k .decide .last .1 .1 .1 .1 .0 in
-    let D : DecidesTo n t b Passed cells taken = rw (h .before .enum-told .given .1) at (k .decide .ensures) in
-    let top : h .highest-of .result ≡ highest (vertices first t) = h .highest-of .ensures in
-    omega (arith, top, settled.wide n t b cells taken D)
-
-cast-t29 : tie.Need-cast-t29
-cast-t29 c =
     let h = c .before .before .before .before .before .before .before .before .before .before in
-    let k = h .before .before .before .before .before .before .before in
-    let g = k .before .before .before .before .before .before .before .before in
-    let n = g .args .n in
-    let t = g .args .table .now in
-    let b = lent (g .args .cells .now) (g .args .order .now) (g .args .taken .now) in
-    let cells = k .decide .last .1 .1 .0 in
-    let taken = k .decide .last .1 .1 .1 .1 .0 in
-    let D : DecidesTo n t b Passed cells taken = rw (h .before .enum-told .given .1) at (k .decide .ensures) in
-    let top : h .highest-of .result ≡ highest (vertices first t) = h .highest-of .ensures in
-    omega (arith, c .first-undecided .ensures, open-low (λ j. eqb (getD cells j 0) 0) (h .highest-of .result), top, highest-limit n t (settled.passes n t b cells taken D))
+    let D = settled.decided _ _ _ _ _ (rw (h .before .enum-told .given .1) at (h .before .before .before .before .before .before .before .decide .ensures)) in
+    omega (arith, h .highest-of .ensures, D .in-cells .slots)
+
+cast-undecided : tie.Need-cast-t28
+cast-undecided c =
+    let h = c .before .before .before .before .before .before .before .before .before .before .before in
+    let D = settled.decided _ _ _ _ _ (rw (h .before .enum-told .given .1) at (h .before .before .before .before .before .before .before .decide .ensures)) in
+    let cells = h .before .before .before .before .before .before .before .decide .last .1 .1 .0 in
+    omega (arith, c .first-undecided .ensures, open-low (λ j. eqb (getD cells j 0) 0) (h .highest-of .result), h .highest-of .ensures, D .fits .ready .sound .rounds)
 
 equivocators-of-requires : tie.Need-equivocators-of-requires
 equivocators-of-requires c κs =
-    let h = c .before .before .before .before .before .before .before .before .before .before in
-    let k = h .before .before .before .before .before .before .before in
-    let g = k .before .before .before .before .before .before .before .before in
-    let n = g .args .n in
-    let t = g .args .table .now in
-    let b = lent (g .args .cells .now) (g .args .order .now) (g .args .taken .now) in
-    let cells = k .decide .last .1 .1 .0 in
-    let taken = k .decide .last .1 .1 .1 .1 .0 in
-    let D : DecidesTo n t b Passed cells taken = rw (h .before .enum-told .given .1) at (k .decide .ensures) in
-    let top : h .highest-of .result ≡ highest (vertices first t) = h .highest-of .ensures in
-    settled.passes n t b cells taken D
+    let h = c .before .before .before .before .before .before .before .before .before .before .before in
+    let D = settled.decided _ _ _ _ _ (rw (h .before .enum-told .given .1) at (h .before .before .before .before .before .before .before .decide .ensures)) in
+    D .fits .ready .sound
 
 returns-2 : tie.Need-returns-2
 returns-2 c =
-    let h = c .before .before .before .before .before .before .before .before .before .before .before in
+    let f = c .before in
+    let r = f .before .before in
+    let w = r .before .before .before .before .before in
+    let h = w .before .before .before .before in
     let k = h .before .before .before .before .before .before .before in
     let g = k .before .before .before .before .before .before .before .before in
     let n = g .args .n in
@@ -101,15 +70,14 @@ returns-2 c =
     let taken = k .decide .last .1 .1 .1 .1 .0 in
     let D : DecidesTo n t b Passed cells taken = rw (h .before .enum-told .given .1) at (k .decide .ensures) in
     let top : h .highest-of .result ≡ highest (vertices first t) = h .highest-of .ensures in
-    let w = c .before .before .before .before .before .before .before in
-    let f = c .before in
     let vs = vertices first t in
     let ds = decisions (boxSetting n) n vs in
     let size : h .highest-of .result ≡ length ds = top ∙ sym (decisions-length (boxSetting n) n vs) in
-    let held : (j : ℕ) → j < h .highest-of .result → getD cells j 0 ≡ cell (decisionAt ds j) = λ j l. settled.held n t b cells taken D j (omega (arith, top)) in
-    let counts : Counts = record { records = records first t; highest = h .highest-of .result; undecided = f .first-undecided .result; written = w .write-order .result; equivocators = c .equivocators-of .result } in
-    let are = counts-are n vs ds (order (boxSetting n) n vs) counts (sym (vertices-length first t)) top (f .first-undecided .ensures ∙ open-cell ds cells (h .highest-of .result) size held) (w .write-order .ensures .1 .1) (c .equivocators-of .ensures) in
-    settled.settled-to n t b cells taken D (record { outcome = outcome.Settled counts }) (w .write-order .last .1 .1 .1 .1 .0) (w .write-order .last .1 .1 .1 .1 .1 .0) counts refl are (w .write-order .ensures .0) (w .write-order .ensures .1 .0)
+    let held : (j : ℕ) → j < h .highest-of .result → getD cells j 0 ≡ cell (decisionAt ds j) = λ j l. settled.decided n t b cells taken D .in-cells .held j (omega arith) (omega (arith, top)) in
+    let counts : Counts = record { records = r .records-of .result; highest = h .highest-of .result; undecided = f .first-undecided .result; written = w .write-order .result; equivocators = c .equivocators-of .result } in
+    let O = w .write-order .ensures in
+    let are = counts-are n vs ds (order (boxSetting n) n vs) counts (r .records-of .ensures ∙ sym (vertices-length first t)) top (f .first-undecided .ensures ∙ open-cell ds cells (h .highest-of .result) size held) (O .counted) (c .equivocators-of .ensures) in
+    settled.settled-to n t b cells taken D (record { outcome = outcome.Settled counts }) (w .write-order .last .1 .1 .1 .1 .0) (w .write-order .last .1 .1 .1 .1 .1 .0) counts refl are (O .places) (O .bytes)
 
 pub settle-spec : {M : Type 1} → statement M
 settle-spec =
@@ -120,8 +88,9 @@ settle-spec =
     returns
     (λ c κs. search needs) (λ c. search needs)
     write-order-requires
+    (λ c κs. search needs)
     first-undecided-requires
-    cast-t29
+    cast-undecided
     equivocators-of-requires
     (λ c. search needs) (λ c. search needs) (λ c. search needs)
     returns-2)

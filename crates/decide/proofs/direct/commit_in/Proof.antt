@@ -18,10 +18,10 @@ use Rattle.decide.proofs.direct.commit_in.Statement.{statement}
 use Rattle.decide.proofs.direct.commit_in.Tie as tie
 
 abbrev Inv-loop : tie.InvT-loop
-Inv-loop n table round leader b e marks q p₀ p = (b ≤ p) × (p - b ≤ e - b) × FailTo (vertices first table) (directCommit n (vertices first table)) b p
+Inv-loop n table round leader b e work q p₀ p = (b ≤ p) × (p - b ≤ e - b) × FailTo (vertices first table) (directCommit n (vertices first table)) b p
 
 abbrev μ-loop : tie.MeasureT-loop
-μ-loop n table round leader b e marks q p₀ p = e - p
+μ-loop n table round leader b e work q p₀ p = e - p
 
 loop-holds : tie.Need-loop-holds Inv-loop μ-loop
 loop-holds c = (omega arith, omega arith, λ p l h. absurd (omega arith))
@@ -33,9 +33,9 @@ returns c =
     let a = s .args in
     let t = a .table .now in
     let p = l .loop .p in
-    let i : InSlot t (a .round) (a .leader) p = in-slot (a .n) t (s .pre .0) (a .round) (a .leader) p (omega (arith, s .pre .1 .1 .1 .0)) (omega (arith, s .pre .1 .1 .1 .1 .0)) in
-    let k = authorsTagged (a .n) (vertices first t) (a .round + 2) (p - a .b + 1) (a .marks .now) in
-    let is : leb (quorum (a .n)) k ≡ directCommit (a .n) (vertices first t) (at (vertices first t) p) = commit-tagged (a .n) t (s .pre .0) (a .round) (a .leader) (a .b) (a .e) p (a .marks .now) (s .pre .1 .1 .1 .1 .1 .1) (l .loop .inv .0) (omega arith) i in
+    let i : InSlot (vertices first t) (a .round) (a .leader) p = in-slot (s .pre .0 .sound .accepted) (a .round) (a .leader) p (omega (arith, s .pre .1 .1 .1 .0)) (omega (arith, s .pre .1 .1 .1 .1 .0)) in
+    let k = authorsTagged (a .n) (vertices first t) (a .round + 2) (p - a .b + 1) (a .work .now) in
+    let is : leb (quorum (a .n)) k ≡ directCommit (a .n) (vertices first t) (at (vertices first t) p) = commit-tagged (s .pre .0 .sound .accepted) (a .round) (a .leader) (a .b) (a .e) p (a .work .now) (s .pre .1 .1 .1 .1 .1) (l .loop .inv .0) (omega arith) i in
     from-found (vertices first t) (directCommit (a .n) (vertices first t)) (a .b) (a .e) p (l .loop .inv .0) (omega arith) (l .loop .inv .2) (sym is ∙ le-leb (quorum (a .n)) k (omega (arith, c .if1 .taken, c .before .authors-tagged .ensures, l .before .quorum-of .ensures)))
 
 loop-again : tie.Need-loop-again Inv-loop μ-loop
@@ -45,9 +45,9 @@ loop-again c =
     let a = s .args in
     let t = a .table .now in
     let p = l .loop .p in
-    let i : InSlot t (a .round) (a .leader) p = in-slot (a .n) t (s .pre .0) (a .round) (a .leader) p (omega (arith, s .pre .1 .1 .1 .0)) (omega (arith, s .pre .1 .1 .1 .1 .0)) in
-    let k = authorsTagged (a .n) (vertices first t) (a .round + 2) (p - a .b + 1) (a .marks .now) in
-    let is : leb (quorum (a .n)) k ≡ directCommit (a .n) (vertices first t) (at (vertices first t) p) = commit-tagged (a .n) t (s .pre .0) (a .round) (a .leader) (a .b) (a .e) p (a .marks .now) (s .pre .1 .1 .1 .1 .1 .1) (l .loop .inv .0) (omega arith) i in (
+    let i : InSlot (vertices first t) (a .round) (a .leader) p = in-slot (s .pre .0 .sound .accepted) (a .round) (a .leader) p (omega (arith, s .pre .1 .1 .1 .0)) (omega (arith, s .pre .1 .1 .1 .1 .0)) in
+    let k = authorsTagged (a .n) (vertices first t) (a .round + 2) (p - a .b + 1) (a .work .now) in
+    let is : leb (quorum (a .n)) k ≡ directCommit (a .n) (vertices first t) (at (vertices first t) p) = commit-tagged (s .pre .0 .sound .accepted) (a .round) (a .leader) (a .b) (a .e) p (a .work .now) (s .pre .1 .1 .1 .1 .1) (l .loop .inv .0) (omega arith) i in (
       omega arith,
       omega arith,
       fail-next (vertices first t) (directCommit (a .n) (vertices first t)) (a .b) p (l .loop .inv .2) (sym is ∙ lt-leb (quorum (a .n)) k (omega (arith, c .if1 .left, c .before .authors-tagged .ensures, l .before .quorum-of .ensures))),

@@ -2,47 +2,48 @@
 -- The measure is the vertices that are left.
 -- Assumes nothing.
 use Prim.Native.Nat.{_+_, _-_, _≤_}
-use mathlib.Core.Path.{_≡_, refl, _∙_}
+use mathlib.Core.Path.{_≡_, refl, sym, _∙_}
 use mathlib.Core.Logic.{inr}
 use Rattle.rules.specs.Record.{first, vertices, at}
 use Rattle.rules.specs.Support.{directCommit}
 use Rattle.rules.proofs.Records.{vertices-length}
 use Rattle.decide.specs.Range.{startOf}
 use Rattle.decide.specs.Work.{Retagged}
-use Rattle.decide.proofs.Ranges.{start-bound, start-mono, record-limit}
+use Rattle.decide.proofs.Ranges.{start-bound, start-mono}
 use Rattle.decide.proofs.Tagging.{retagged-same, retagged-on}
 use Rattle.decide.proofs.Commits.{FailTo, fail-on, from-fail, from-pass, first-in-found, first-in-none}
 use native.Mathlib.Omega.{arith}
+use Rattle.decide.proofs.Passed.{ready-on}
 use borrow.Author.Needs.{needs}
 use Rattle.decide.proofs.direct.direct_commit.Statement.{statement}
 use Rattle.decide.proofs.direct.direct_commit.Tie as tie
 
 abbrev Inv-loop : tie.InvT-loop
-Inv-loop n table round leader marks₀ end b₀ marks b = (b₀ ≤ b) × (b ≤ end) × Retagged marks₀ marks × FailTo (vertices first table) (directCommit n (vertices first table)) b₀ b
+Inv-loop n table round leader work₀ end b₀ work b = (b₀ ≤ b) × (b ≤ end) × Retagged work₀ work × FailTo (vertices first table) (directCommit n (vertices first table)) b₀ b
 
 abbrev μ-loop : tie.MeasureT-loop
-μ-loop n table round leader marks₀ end b₀ marks b = end - b
+μ-loop n table round leader work₀ end b₀ work b = end - b
 
 loop-holds : tie.Need-loop-holds Inv-loop μ-loop
 loop-holds c =
     let s = c .before .before .before .before in
     let a = s .args in
     let t = a .table .now in
-    let m : startOf t (a .round) (a .leader) ≤ startOf t (a .round) (a .leader + 1) = start-mono (a .n) t (s .pre .0) (a .round) (a .leader) (a .round) (a .leader + 1) (inr (refl, omega arith)) in
-    (omega arith, omega (arith, m, c .before .begin .ensures, c .begin2 .ensures), retagged-same (a .marks .now), λ p l h. absurd (omega arith))
+    let m : startOf (vertices first t) (a .round) (a .leader) ≤ startOf (vertices first t) (a .round) (a .leader + 1) = start-mono (s .pre .0 .sound .accepted) (a .round) (a .leader) (a .round) (a .leader + 1) (inr (refl, omega arith)) in
+    (omega arith, omega (arith, m, c .before .begin .ensures, c .begin2 .ensures), retagged-same (a .work .now), λ p l h. absurd (omega arith))
 
 add-smaller : tie.Need-add-smaller Inv-loop μ-loop
 add-smaller c =
     let b = c .before .before .before in
     let s = b .before .before .before in
     let a = s .args in
-    record { fits = omega (arith, b .begin .ensures, start-bound (a .n) (a .table .now) (s .pre .0) (a .round) (a .leader + 1), record-limit (a .n) (a .table .now) (s .pre .0)) }
+    record { fits = omega (arith, b .begin .ensures, start-bound (s .pre .0 .sound .accepted) (a .round) (a .leader + 1), s .pre .0 .sound .few) }
 
 tag-certified-requires : tie.Need-tag-certified-requires Inv-loop μ-loop
 tag-certified-requires c κs =
     let l = c .before .before .before in
     let s = l .before .before .before .before .before in
-    (s .pre .0, (s .pre .1 .0, (omega (arith, c .before .smaller .ensures), omega (arith, s .pre .1 .1 .1, l .loop .inv .2 .same-length))))
+    (ready-on (s .pre .0) (l .loop .inv .2 .same-length), (s .pre .1 .0, omega (arith, c .before .smaller .ensures)))
 
 commit-in-requires : tie.Need-commit-in-requires Inv-loop μ-loop
 commit-in-requires c κs =
@@ -51,22 +52,11 @@ commit-in-requires c κs =
     let l = m .before .before in
     let b = l .before in
     let s = b .before .before .before .before in
-    let t = s .args .table .now in (
-      s .pre .0,
-      (
-        s .pre .1 .0,
-        (
-          omega (arith, m .smaller .ensures),
-          (
-            omega (arith, b .begin2 .ensures),
-            (
-              omega (arith, m .smaller .ensures, b .before .begin .ensures),
-              (omega (arith, s .pre .1 .1 .1, l .loop .inv .2 .same-length, g .tag-certified .ensures .retagged .same-length), λ w h e. g .tag-certified .ensures .tags w (rw (vertices-length first t) h) e),
-            ),
-          ),
-        ),
-      ),
-    )
+    let still = g .tag-certified .ensures .retagged .same-length ∙ l .loop .inv .2 .same-length in
+    let within : m .smaller .result ≤ l .loop .b + 127 = omega (arith, m .smaller .ensures) in
+    let from-on : startOf (vertices first (s .args .table .now)) (s .args .round) (s .args .leader) ≤ l .loop .b = omega (arith, b .begin2 .ensures) in
+    let up-to : m .smaller .result ≤ startOf (vertices first (s .args .table .now)) (s .args .round) (s .args .leader + 1) = omega (arith, m .smaller .ensures, b .before .begin .ensures) in
+    (ready-on (s .pre .0) still, (s .pre .1 .0, (within, (from-on, (up-to, g .tag-certified .ensures .tags)))))
 
 same-length : tie.Need-same-length Inv-loop μ-loop
 same-length c =
@@ -86,10 +76,10 @@ returns c =
     let ok = directCommit (a .n) (vertices first t) in
     let p = c .before .commit-in .result in
     let is = c .before .commit-in .ensures in
-    let fails : FailTo (vertices first t) ok (startOf t (a .round) (a .leader)) p = rw (b .begin2 .ensures) at (fail-on (vertices first t) ok (b .begin2 .result) (l .loop .b) p (l .loop .inv .3) (from-fail (vertices first t) ok (l .loop .b) (m .smaller .result) p is)) in
+    let fails : FailTo (vertices first t) ok (startOf (vertices first t) (a .round) (a .leader)) p = rw (b .begin2 .ensures) at (fail-on (vertices first t) ok (b .begin2 .result) (l .loop .b) p (l .loop .inv .3) (from-fail (vertices first t) ok (l .loop .b) (m .smaller .result) p is)) in
     let up : l .loop .b ≤ p = omega (arith, is) in (
-      first-in-found (a .n) t (s .pre .0) (a .round) (a .leader) ok p (omega (arith, b .begin2 .ensures)) (omega (arith, m .smaller .ensures, b .before .begin .ensures)) fails (from-pass (vertices first t) ok (l .loop .b) (m .smaller .result) p is (c .if1 .taken)),
-      retagged-on (a .marks .now) (l .loop .marks) _ (l .loop .inv .2) (g .tag-certified .ensures .retagged),
+      first-in-found (s .pre .0 .sound .accepted) (a .round) (a .leader) ok p (omega (arith, b .begin2 .ensures)) (omega (arith, m .smaller .ensures, b .before .begin .ensures)) fails (from-pass (vertices first t) ok (l .loop .b) (m .smaller .result) p is (c .if1 .taken)),
+      retagged-on (a .work .now) (l .loop .work) _ (l .loop .inv .2) (g .tag-certified .ensures .retagged),
     )
 
 loop-less : tie.Need-loop-less Inv-loop μ-loop
@@ -111,23 +101,23 @@ loop-again c =
     let is = c .before .commit-in .ensures in (
       omega (arith, m .smaller .ensures),
       omega (arith, m .smaller .ensures),
-      retagged-on (a .marks .now) (l .loop .marks) _ (l .loop .inv .2) (g .tag-certified .ensures .retagged),
+      retagged-on (a .work .now) (l .loop .work) _ (l .loop .inv .2) (g .tag-certified .ensures .retagged),
       fail-on (vertices first t) ok (b .begin2 .result) (l .loop .b) (m .smaller .result) (l .loop .inv .3) (λ j f h. from-fail (vertices first t) ok (l .loop .b) (m .smaller .result) p is j f (omega arith)),
     )
 
 same-length-2 : tie.Need-same-length-2 Inv-loop μ-loop
-same-length-2 c = c .before .loop .inv .2 .same-length
+same-length-2 c = c .before .before .loop .inv .2 .same-length
 
 returns-2 : tie.Need-returns-2 Inv-loop μ-loop
 returns-2 c =
-    let l = c .before in
+    let l = c .before .before in
     let b = l .before in
     let s = b .before .before .before .before in
     let a = s .args in
     let t = a .table .now in
-    let e : l .loop .b ≡ startOf t (a .round) (a .leader + 1) = omega (arith, b .before .begin .ensures) in
-    let f : FailTo (vertices first t) (directCommit (a .n) (vertices first t)) (startOf t (a .round) (a .leader)) (startOf t (a .round) (a .leader + 1)) = rw (b .begin2 .ensures, e) at (l .loop .inv .3) in
-    (first-in-none (a .n) t (s .pre .0) (a .round) (a .leader) (directCommit (a .n) (vertices first t)) f, l .loop .inv .2)
+    let e : l .loop .b ≡ startOf (vertices first t) (a .round) (a .leader + 1) = omega (arith, b .before .begin .ensures) in
+    let f : FailTo (vertices first t) (directCommit (a .n) (vertices first t)) (startOf (vertices first t) (a .round) (a .leader)) (startOf (vertices first t) (a .round) (a .leader + 1)) = rw (b .begin2 .ensures, e) at (l .loop .inv .3) in
+    (c .records-of .ensures ∙ sym (vertices-length first t) ∙ first-in-none (s .pre .0 .sound .accepted) (a .round) (a .leader) (directCommit (a .n) (vertices first t)) f, l .loop .inv .2)
 
 pub direct-commit-spec : {M : Type 1} → statement M
 direct-commit-spec =
@@ -145,5 +135,6 @@ direct-commit-spec =
     returns
     loop-less
     loop-again
+    (λ c κs. search needs)
     same-length-2
     returns-2)

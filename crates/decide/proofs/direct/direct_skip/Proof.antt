@@ -10,7 +10,7 @@ returns c =
     let b = c .before .before .before .before .before in
     let s = b .before .before .before .before in
     let a = s .args in (
-      rw (c .before .before .quorum-of .ensures, c .authors-tagged .ensures) (skip-tagged (a .n) (a .table .now) (s .pre .0) (a .round) (a .leader) (a .marks .now) (b .tag-blank .last .1 .1 .1 .1 .0) (b .tag-blank .ensures)),
+      rw (c .before .before .quorum-of .ensures, c .authors-tagged .ensures) (skip-tagged (s .pre .0 .sound .accepted) (a .round) (a .leader) (a .work .now) (b .tag-blank .last .1 .1 .1 .1 .0) (b .tag-blank .ensures)),
       b .tag-blank .ensures .retagged,
     )
 

@@ -4,99 +4,101 @@
 use Prim.Native.Nat.{_+_, _-_, _≤_, _<_, min}
 use mathlib.Core.Path.{_≡_, sym, ap₂, _∙_}
 use mathlib.Core.Logic.{inl, ⊎-elim}
-use Rattle.rules.specs.Record.{first, records, vertices}
+use Rattle.rules.specs.Record.{first, vertices}
 use Rattle.rules.specs.Support.{references}
 use Rattle.rules.specs.History.{history}
 use Rattle.rules.proofs.Records.{vertices-length}
 use Rattle.decide.specs.Range.{startOf}
 use Rattle.decide.proofs.Ranges.{start-bound, start-mono}
 use Rattle.decide.proofs.Sweeps.{bit-yes, bit-no}
-use Rattle.decide.proofs.InCells.{toldBelow, two-up-in, told-start, told-yes, told-no, told-end, told-byte}
+use Rattle.decide.proofs.Members.{toldBelow, two-up-in, told-start, told-yes, told-no, told-end, told-byte}
 use native.Mathlib.Omega.{arith}
+use lib.ListN.{length}
 use borrow.Author.Needs.{needs}
 use Rattle.decide.proofs.history.certified_in.Statement.{statement}
 use Rattle.decide.proofs.history.certified_in.Tie as tie
 
 abbrev Inv-loop : tie.InvT-loop
-Inv-loop n table round leader a done marks end w₀ best₀ w best =
-    (startOf table (round + 2) 0 ≤ w)
+Inv-loop n table round leader a done work end w₀ best₀ w best =
+    (startOf (vertices first table) (round + 2) 0 ≤ w)
     × (w ≤ end)
     × (best ≡ toldBelow n (vertices first table) (history references (vertices first table) a) round leader w)
 
 abbrev μ-loop : tie.MeasureT-loop
-μ-loop n table round leader a done marks end w₀ best₀ w best = end - w
+μ-loop n table round leader a done work end w₀ best₀ w best = end - w
 
 loop-holds : tie.Need-loop-holds Inv-loop μ-loop
 loop-holds c =
-    let s = c .before .before .before .before in
+    let s = c .before .before .before .before .before in
     let n = s .args .n in
     let t = s .args .table .now in
-    let ok = s .pre .0 in
+    let A = s .pre .0 .sound .accepted in
     let r = s .args .round in
-    let S = s .pre .1 .1 .1 .0 in
-    let la : s .args .a < records first t = omega (arith, S .within, vertices-length first t) in
-    let at-start : c .begin2 .result ≡ startOf t (r + 2) 0 = c .begin2 .ensures in
-    let at-end : c .before .begin .result ≡ startOf t (r + 3) 0 = c .before .begin .ensures in
-    (omega arith, omega (arith, start-mono n t ok (r + 2) 0 (r + 3) 0 (inl (omega arith))), rw at-start (sym (told-start n t ok r (s .args .leader) (s .args .a) la ∙ vertices-length first t)))
+    let S = s .pre .1 .1 .0 in
+    let la : s .args .a < length (vertices first t) = S .within in
+    let e = c .before in
+    let at-start : e .begin2 .result ≡ startOf (vertices first t) (r + 2) 0 = e .begin2 .ensures in
+    let at-end : e .before .begin .result ≡ startOf (vertices first t) (r + 3) 0 = e .before .begin .ensures in
+    (omega arith, omega (arith, start-mono A (r + 2) 0 (r + 3) 0 (inl (omega arith))), sym (rw at-start (told-start A r (s .args .leader) (s .args .a) la ∙ vertices-length first t) ∙ sym (c .records-of .ensures)))
 
 shared-slice-read-if1 : tie.Need-shared-slice-read-if1 Inv-loop μ-loop
 shared-slice-read-if1 c =
     let l = c .before .before in
-    let b = l .before .before in
+    let b = l .before .before .before in
     let s = b .before .before .before in
-    omega (arith, b .begin .ensures, start-bound (s .args .n) (s .args .table .now) (s .pre .0) (s .args .round + 3) 0, s .pre .1 .1 .0)
+    omega (arith, b .begin .ensures, start-bound (s .pre .0 .sound .accepted) (s .args .round + 3) 0, s .pre .0 .room)
 
 certified-at-requires : tie.Need-certified-at-requires Inv-loop μ-loop
 certified-at-requires c κs =
     let l = c .before .before .before in
-    let b = l .before .before in
+    let b = l .before .before .before in
     let s = b .before .before .before in
     let n = s .args .n in
     let t = s .args .table .now in
-    let ok = s .pre .0 in
+    let A = s .pre .0 .sound .accepted in
     let r = s .args .round in
-    let S = s .pre .1 .1 .1 .0 in
-    let la : s .args .a < records first t = omega (arith, S .within, vertices-length first t) in
-    let at-end : b .begin .result ≡ startOf t (r + 3) 0 = b .begin .ensures in
-    let here = two-up-in n t ok r (s .args .leader) (s .args .a) la (l .loop .w) (l .loop .inv .0) (omega arith) in
-    (ok, (here .within, here .round))
+    let S = s .pre .1 .1 .0 in
+    let la : s .args .a < length (vertices first t) = S .within in
+    let at-end : b .begin .result ≡ startOf (vertices first t) (r + 3) 0 = b .begin .ensures in
+    let here = two-up-in A r (s .args .leader) (s .args .a) la (l .loop .w) (l .loop .inv .0) (omega arith) in
+    (s .pre .0 .sound, (here .within, here .round))
 
 loop-again : tie.Need-loop-again Inv-loop μ-loop
 loop-again c =
     let l = c .before .before .before in
-    let b = l .before .before in
+    let b = l .before .before .before in
     let s = b .before .before .before in
     let n = s .args .n in
     let t = s .args .table .now in
-    let ok = s .pre .0 in
+    let A = s .pre .0 .sound .accepted in
     let r = s .args .round in
-    let S = s .pre .1 .1 .1 .0 in
-    let la : s .args .a < records first t = omega (arith, S .within, vertices-length first t) in
-    let at-end : b .begin .result ≡ startOf t (r + 3) 0 = b .begin .ensures in
-    let here = two-up-in n t ok r (s .args .leader) (s .args .a) la (l .loop .w) (l .loop .inv .0) (omega arith) in
-    let byte = told-byte n t ok r (s .args .leader) (s .args .a) la (s .args .done) (s .args .marks .now) S (s .pre .1 .1 .1 .1) (l .loop .w) here in
+    let S = s .pre .1 .1 .0 in
+    let la : s .args .a < length (vertices first t) = S .within in
+    let at-end : b .begin .result ≡ startOf (vertices first t) (r + 3) 0 = b .begin .ensures in
+    let here = two-up-in A r (s .args .leader) (s .args .a) la (l .loop .w) (l .loop .inv .0) (omega arith) in
+    let byte = told-byte A r (s .args .leader) (s .args .a) la (s .args .done) (s .args .work .now) S (s .pre .1 .1 .1) (l .loop .w) here in
     ⊎-elim
     (λ w.
     let member = bit-yes _ (λ z. omega (arith, byte ∙ z, w .0 .taken)) in
-    (omega arith, omega arith, w .3 ∙ w .2 .ensures ∙ ap₂ min (l .loop .inv .2) (w .1 .ensures) ∙ sym (told-yes n t ok r (s .args .leader) (s .args .a) la (l .loop .w) member)))
+    (omega arith, omega arith, w .3 ∙ w .2 .ensures ∙ ap₂ min (l .loop .inv .2) (w .1 .ensures) ∙ sym (told-yes A r (s .args .leader) (s .args .a) la (l .loop .w) member)))
     (λ w.
     let other = bit-no _ (sym byte ∙ omega (arith, w .0 .left)) in
-    (omega arith, omega arith, w .1 ∙ l .loop .inv .2 ∙ sym (told-no n t ok r (s .args .leader) (s .args .a) la (l .loop .w) other)))
+    (omega arith, omega arith, w .1 ∙ l .loop .inv .2 ∙ sym (told-no A r (s .args .leader) (s .args .a) la (l .loop .w) other)))
     (c .if1 .came)
 
 returns : tie.Need-returns Inv-loop μ-loop
 returns c =
     let l = c .before in
-    let b = l .before .before in
+    let b = l .before .before .before in
     let s = b .before .before .before in
     let n = s .args .n in
     let t = s .args .table .now in
-    let ok = s .pre .0 in
+    let A = s .pre .0 .sound .accepted in
     let r = s .args .round in
-    let S = s .pre .1 .1 .1 .0 in
-    let la : s .args .a < records first t = omega (arith, S .within, vertices-length first t) in
-    let e : l .loop .w ≡ startOf t (r + 3) 0 = omega (arith, b .begin .ensures) in
-    rw e at (l .loop .inv .2) ∙ told-end n t ok r (s .args .leader) (s .args .a) la
+    let S = s .pre .1 .1 .0 in
+    let la : s .args .a < length (vertices first t) = S .within in
+    let e : l .loop .w ≡ startOf (vertices first t) (r + 3) 0 = omega (arith, b .begin .ensures) in
+    rw e at (l .loop .inv .2) ∙ told-end A r (s .args .leader) (s .args .a) la
 
 pub certified-in-spec : {M : Type 1} → statement M
 certified-in-spec =
@@ -104,7 +106,7 @@ certified-in-spec =
     (tie.spec
     Inv-loop
     μ-loop
-    (λ c. search needs) (λ c κs. search needs) (λ c. search needs) (λ c κs. search needs)
+    (λ c. search needs) (λ c κs. search needs) (λ c. search needs) (λ c κs. search needs) (λ c κs. search needs)
     loop-holds
     shared-slice-read-if1
     certified-at-requires

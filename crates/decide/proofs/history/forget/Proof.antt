@@ -11,10 +11,10 @@ use Rattle.decide.proofs.history.forget.Statement.{statement}
 use Rattle.decide.proofs.history.forget.Tie as tie
 
 abbrev Inv-loop : tie.InvT-loop
-Inv-loop marks₀ k q₀ marks q = (length marks ≡ length marks₀) × (q ≤ k) × ((i : ℕ) → i < q → historyAt marks i ≡ 0)
+Inv-loop work₀ k q₀ work q = (length work ≡ length work₀) × (q ≤ k) × ((i : ℕ) → i < q → historyAt work i ≡ 0)
 
 abbrev μ-loop : tie.MeasureT-loop
-μ-loop marks₀ k q₀ marks q = k - q
+μ-loop work₀ k q₀ work q = k - q
 
 loop-holds : tie.Need-loop-holds Inv-loop μ-loop
 loop-holds c = (refl, omega arith, λ i l. absurd (omega arith))
@@ -22,7 +22,7 @@ loop-holds c = (refl, omega arith, λ i l. absurd (omega arith))
 loop-again : tie.Need-loop-again Inv-loop μ-loop
 loop-again c =
     let l = c .before .before .before in
-    (simp length-set (l .loop .inv .0), omega arith, forget-next (l .loop .marks) (l .loop .q) _ (omega arith) (c .without-history .ensures) (l .loop .inv .2))
+    (simp length-set (l .loop .inv .0), omega arith, forget-next (l .loop .work) (l .loop .q) _ (omega arith) (c .without-history .ensures) (l .loop .inv .2))
 
 returns : tie.Need-returns Inv-loop μ-loop
 returns c =

@@ -5,8 +5,8 @@ use native.Mathlib.Omega.{arith}
 use native.Mathlib.Numerals.{add-one}
 use lib.ListN.{length}
 use Rattle.rules.specs.Record.{first, vertices}
-use Rattle.rules.proofs.Records.{vertices-length}
 use Rattle.decide.specs.Sweep.{Swept}
+use Rattle.rules.specs.Support.{references}
 use borrow.Author.Needs.{needs}
 use Rattle.decide.proofs.history.take_up.Statement.{statement}
 use Rattle.decide.proofs.history.take_up.Tie as tie
@@ -15,8 +15,8 @@ returns : tie.Need-returns
 returns c =
     let s = c .before .before .before .before in
     let vs = vertices first (s .args .table .now) in
-    let within : s .args .walk .anchor < length vs = omega (arith, c .if1 .taken, s .pre .1 .0, vertices-length first (s .args .table .now)) in
-    (refl, subst (λ (x : ℕ). Swept vs x (s .args .walk .done) (s .args .marks .now)) (c .if1 .taken) (s .pre .1 .1 .1 within))
+    let within : s .args .walk .anchor < length vs = omega (arith, c .if1 .taken, s .pre .1 .0) in
+    (refl, subst (λ (x : ℕ). Swept references vs x (s .args .walk .done) (s .args .work .now)) (c .if1 .taken) (s .pre .1 .1 within))
 
 returns-2 : tie.Need-returns-2
 returns-2 c =

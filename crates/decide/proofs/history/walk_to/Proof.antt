@@ -1,10 +1,8 @@
 -- `decide::history::walk_to` meets its contract: taken up, and swept down to where it is wanted. Assumes nothing.
-use Prim.Native.Nat.{_≤_}
 use mathlib.Core.Path.{refl, _∙_}
 use native.Mathlib.Omega.{arith}
 use native.Mathlib.Nat.{le-refl}
-use lib.ListN.{length}
-use Rattle.rules.specs.Record.{first, records}
+use Rattle.decide.proofs.Passed.{ready-on}
 use borrow.Author.Needs.{needs}
 use Rattle.decide.proofs.history.walk_to.Statement.{statement}
 use Rattle.decide.proofs.history.walk_to.Tie as tie
@@ -18,8 +16,7 @@ sweep-requires : tie.Need-sweep-requires
 sweep-requires c κs =
     let r = c .before .before .before .before in
     let s = r .before .before .before .before in
-    let room : records first (s .args .table .now) ≤ length (r .take-up .last .1 .1 .1 .1 .0) = omega (arith, r .take-up .ensures .0, s .pre .1 .1 .1 .0) in
-    (s .pre .0, (omega arith, (room, r .take-up .ensures .1)))
+    (ready-on (s .pre .0) (r .take-up .ensures .0), (omega arith, r .take-up .ensures .1))
 
 returns-2 : tie.Need-returns-2
 returns-2 c =

@@ -13,23 +13,23 @@ use Rattle.decide.proofs.tags.count_tagged.Statement.{statement}
 use Rattle.decide.proofs.tags.count_tagged.Tie as tie
 
 abbrev Inv-loop : tie.InvT-loop
-Inv-loop marks from to tag c₀ q₀ c q = (from ≤ q) × (q ≤ to) × (c ≤ q) × (c ≡ countTo (taggedFrom marks from tag) (q - from))
+Inv-loop work from to tag c₀ q₀ c q = (from ≤ q) × (q ≤ to) × (c ≤ q) × (c ≡ countTo (taggedFrom work from tag) (q - from))
 
 abbrev μ-loop : tie.MeasureT-loop
-μ-loop marks from to tag c₀ q₀ c q = to - q
+μ-loop work from to tag c₀ q₀ c q = to - q
 
 loop-holds : tie.Need-loop-holds Inv-loop μ-loop
 loop-holds c =
     let a = c .args in
     let e : a .from - a .from ≡ 0 = omega arith in
-    (omega arith, omega arith, omega arith, rw e (sym (count-start (taggedFrom (a .marks .now) (a .from) (a .tag)))))
+    (omega arith, omega arith, omega arith, rw e (sym (count-start (taggedFrom (a .work .now) (a .from) (a .tag)))))
 
 loop-again : tie.Need-loop-again Inv-loop μ-loop
 loop-again c =
     let l = c .before .before .before in
     let a = l .before .args in
-    let at-q = tag-yes (a .marks .now) (a .from) (a .tag) (l .loop .q) (l .loop .inv .0) (l .loop .c) (l .loop .inv .3) in
-    let not-q = tag-no (a .marks .now) (a .from) (a .tag) (l .loop .q) (l .loop .inv .0) (l .loop .c) (l .loop .inv .3) in
+    let at-q = tag-yes (a .work .now) (a .from) (a .tag) (l .loop .q) (l .loop .inv .0) (l .loop .c) (l .loop .inv .3) in
+    let not-q = tag-no (a .work .now) (a .from) (a .tag) (l .loop .q) (l .loop .inv .0) (l .loop .c) (l .loop .inv .3) in
     ⊎-elim
     (λ w. (omega arith, omega arith, omega arith, w .1 ∙ at-q (w .0 .taken)))
     (λ w. (omega arith, omega arith, omega arith, w .1 ∙ not-q (w .0 .left)))

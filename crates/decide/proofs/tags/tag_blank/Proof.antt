@@ -22,42 +22,42 @@ abbrev tag-of : List ℕ → (leader : ℕ) → ℕ → ℕ
 tag-of t leader q = bit (eqb (entry (at (vertices first t) q) leader) 0)
 
 abbrev Inv-loop : tie.InvT-loop
-Inv-loop n table round leader marks₀ end q₀ marks q = (q ≤ end) × TaggedTo q₀ (tag-of table leader) marks₀ q marks
+Inv-loop n table round leader work₀ end q₀ work q = (q ≤ end) × TaggedTo q₀ (tag-of table leader) work₀ q work
 
 abbrev μ-loop : tie.MeasureT-loop
-μ-loop n table round leader marks₀ end q₀ marks q = end - q
+μ-loop n table round leader work₀ end q₀ work q = end - q
 
 loop-holds : tie.Need-loop-holds Inv-loop μ-loop
 loop-holds c =
     let s = c .before .before .before .before in
     let a = s .args in
-    let m : startOf (a .table .now) (a .round + 1) 0 ≤ startOf (a .table .now) (a .round + 2) 0 = start-mono (a .n) (a .table .now) (s .pre .0) (a .round + 1) 0 (a .round + 2) 0 (inl (omega arith)) in
-    (omega (arith, m, c .before .begin .ensures, c .begin2 .ensures), tagged-start (c .begin2 .result) (tag-of (a .table .now) (a .leader)) (a .marks .now))
+    let m : startOf (vertices first (a .table .now)) (a .round + 1) 0 ≤ startOf (vertices first (a .table .now)) (a .round + 2) 0 = start-mono (s .pre .0 .sound .accepted) (a .round + 1) 0 (a .round + 2) 0 (inl (omega arith)) in
+    (omega (arith, m, c .before .begin .ensures, c .begin2 .ensures), tagged-start (c .begin2 .result) (tag-of (a .table .now) (a .leader)) (a .work .now))
 
 entry-at-requires : tie.Need-entry-at-requires Inv-loop μ-loop
 entry-at-requires c κs =
     let b = c .before .before .before in
     let s = b .before .before .before in
-    omega (arith, b .begin .ensures, start-bound (s .args .n) (s .args .table .now) (s .pre .0) (s .args .round + 2) 0)
+    omega (arith, b .begin .ensures, start-bound (s .pre .0 .sound .accepted) (s .args .round + 2) 0)
 
 slice-read-with-tag : tie.Need-slice-read-with-tag Inv-loop μ-loop
 slice-read-with-tag c =
     let l = c .before .before .before .before in
     let b = l .before .before in
     let s = b .before .before .before in
-    omega (arith, l .loop .inv .1 .retagged .same-length, s .pre .1 .1, b .begin .ensures, start-bound (s .args .n) (s .args .table .now) (s .pre .0) (s .args .round + 2) 0)
+    omega (arith, l .loop .inv .1 .retagged .same-length, s .pre .0 .room, b .begin .ensures, start-bound (s .pre .0 .sound .accepted) (s .args .round + 2) 0)
 
 with-tag-requires : tie.Need-with-tag-requires Inv-loop μ-loop
 with-tag-requires c κs =
     let b = c .before in
     omega (arith, b .blank-tag .ensures, bit-small (eqb (b .before .entry-at .result) 0))
 
-slice-write-marks : tie.Need-slice-write-marks Inv-loop μ-loop
-slice-write-marks c =
+slice-write-work : tie.Need-slice-write-work Inv-loop μ-loop
+slice-write-work c =
     let l = c .before .before .before .before .before in
     let b = l .before .before in
     let s = b .before .before .before in
-    omega (arith, l .loop .inv .1 .retagged .same-length, s .pre .1 .1, b .begin .ensures, start-bound (s .args .n) (s .args .table .now) (s .pre .0) (s .args .round + 2) 0)
+    omega (arith, l .loop .inv .1 .retagged .same-length, s .pre .0 .room, b .begin .ensures, start-bound (s .pre .0 .sound .accepted) (s .args .round + 2) 0)
 
 loop-again : tie.Need-loop-again Inv-loop μ-loop
 loop-again c =
@@ -66,9 +66,9 @@ loop-again c =
     let b = l .before .before in
     let s = b .before .before .before in
     let a = s .args in
-    let low : l .loop .q < length (l .loop .marks) = omega (arith, l .loop .inv .1 .retagged .same-length, s .pre .1 .1, b .begin .ensures, start-bound (a .n) (a .table .now) (s .pre .0) (a .round + 2) 0) in
+    let low : l .loop .q < length (l .loop .work) = omega (arith, l .loop .inv .1 .retagged .same-length, s .pre .0 .room, b .begin .ensures, start-bound (s .pre .0 .sound .accepted) (a .round + 2) 0) in
     let tag : c .with-tag .result % 128 ≡ tag-of (a .table .now) (a .leader) (l .loop .q) = c .with-tag .ensures .1 ∙ f .blank-tag .ensures ∙ ap (λ m. bit (eqb m 0)) (f .before .entry-at .ensures) in
-    (omega arith, tagged-next _ (tag-of (a .table .now) (a .leader)) (a .marks .now) (l .loop .q) (l .loop .marks) (c .with-tag .result) low (c .with-tag .ensures .0) tag (l .loop .inv .1))
+    (omega arith, tagged-next _ (tag-of (a .table .now) (a .leader)) (a .work .now) (l .loop .q) (l .loop .work) (c .with-tag .result) low (c .with-tag .ensures .0) tag (l .loop .inv .1))
 
 same-length : tie.Need-same-length Inv-loop μ-loop
 same-length c = c .before .loop .inv .1 .retagged .same-length
@@ -79,7 +79,7 @@ returns c =
     let b = l .before .before in
     let s = b .before .before .before in
     let a = s .args in
-    tagged-end (a .n) (a .table .now) (s .pre .0) (a .round + 1) (a .round + 2) (l .before .begin2 .result) (tag-of (a .table .now) (a .leader)) (a .marks .now) (l .loop .marks) (l .loop .q) (omega arith) (l .before .begin2 .ensures) (omega (arith, b .begin .ensures)) (l .loop .inv .1)
+    tagged-end (s .pre .0 .sound .accepted) (a .round + 1) (a .round + 2) (l .before .begin2 .result) (tag-of (a .table .now) (a .leader)) (a .work .now) (l .loop .work) (l .loop .q) (omega arith) (l .before .begin2 .ensures) (omega (arith, b .begin .ensures)) (l .loop .inv .1)
 
 pub tag-blank-spec : {M : Type 1} → statement M
 tag-blank-spec =
@@ -93,7 +93,7 @@ tag-blank-spec =
     (λ c κs. search needs)
     slice-read-with-tag
     with-tag-requires
-    slice-write-marks
+    slice-write-work
     (λ c. search needs) (λ c. search needs)
     loop-again
     same-length

@@ -22,18 +22,18 @@ abbrev tag-of : (n : ℕ) → List ℕ → (round leader b e : ℕ) → ℕ → 
 tag-of n t round leader b e w = windowTag (certifiedAt n (vertices first t) round leader w) b e
 
 abbrev Inv-loop : tie.InvT-loop
-Inv-loop n table round leader b e marks₀ end w₀ marks w = (w₀ ≤ w) × (w ≤ end) × TaggedTo w₀ (tag-of n table round leader b e) marks₀ w marks
+Inv-loop n table round leader b e work₀ end w₀ work w = (w₀ ≤ w) × (w ≤ end) × TaggedTo w₀ (tag-of n table round leader b e) work₀ w work
 
 abbrev μ-loop : tie.MeasureT-loop
-μ-loop n table round leader b e marks₀ end w₀ marks w = end - w
+μ-loop n table round leader b e work₀ end w₀ work w = end - w
 
 loop-holds : tie.Need-loop-holds Inv-loop μ-loop
 loop-holds c =
     let s = c .before .before .before .before in
     let a = s .args in
     let t = a .table .now in
-    let m : startOf t (a .round + 2) 0 ≤ startOf t (a .round + 3) 0 = start-mono (a .n) t (s .pre .0) (a .round + 2) 0 (a .round + 3) 0 (inl (omega arith)) in
-    (omega arith, omega (arith, m, c .before .begin .ensures, c .begin2 .ensures), tagged-start (c .begin2 .result) (tag-of (a .n) t (a .round) (a .leader) (a .b) (a .e)) (a .marks .now))
+    let m : startOf (vertices first t) (a .round + 2) 0 ≤ startOf (vertices first t) (a .round + 3) 0 = start-mono (s .pre .0 .sound .accepted) (a .round + 2) 0 (a .round + 3) 0 (inl (omega arith)) in
+    (omega arith, omega (arith, m, c .before .begin .ensures, c .begin2 .ensures), tagged-start (c .begin2 .result) (tag-of (a .n) t (a .round) (a .leader) (a .b) (a .e)) (a .work .now))
 
 certified-at-requires : tie.Need-certified-at-requires Inv-loop μ-loop
 certified-at-requires c κs =
@@ -42,30 +42,30 @@ certified-at-requires c κs =
     let s = b .before .before .before in
     let a = s .args in
     let t = a .table .now in
-    let up : l .loop .w < startOf t (a .round + 2 + 1) 0 = (let e : a .round + 2 + 1 ≡ a .round + 3 = omega arith in rw e (omega (arith, b .begin .ensures))) in
-    let i : InRound t (a .round + 2) (l .loop .w) = in-round (a .n) t (s .pre .0) (a .round + 2) (l .loop .w) (omega (arith, l .before .begin2 .ensures)) up in
-    (s .pre .0, (i .within, i .round))
+    let up : l .loop .w < startOf (vertices first t) (a .round + 2 + 1) 0 = (let e : a .round + 2 + 1 ≡ a .round + 3 = omega arith in rw e (omega (arith, b .begin .ensures))) in
+    let i : InRound (vertices first t) (a .round + 2) (l .loop .w) = in-round (s .pre .0 .sound .accepted) (a .round + 2) (l .loop .w) (omega (arith, l .before .begin2 .ensures)) up in
+    (s .pre .0 .sound, (i .within, i .round))
 
 slice-read-with-tag : tie.Need-slice-read-with-tag Inv-loop μ-loop
 slice-read-with-tag c =
     let l = c .before .before .before in
     let b = l .before .before in
     let s = b .before .before .before in
-    omega (arith, l .loop .inv .2 .retagged .same-length, s .pre .1 .1 .1, b .begin .ensures, start-bound (s .args .n) (s .args .table .now) (s .pre .0) (s .args .round + 3) 0)
+    omega (arith, l .loop .inv .2 .retagged .same-length, s .pre .0 .room, b .begin .ensures, start-bound (s .pre .0 .sound .accepted) (s .args .round + 3) 0)
 
 with-tag-requires : tie.Need-with-tag-requires Inv-loop μ-loop
 with-tag-requires c κs =
     let p = c .before .before in
     let s = p .before .before .before .before .before .before .before in
-    let small = window-small (p .certified-at .result) (s .args .b) (s .args .e) (s .pre .1 .1 .0) in
+    let small = window-small (p .certified-at .result) (s .args .b) (s .args .e) (s .pre .1 .1) in
     omega (arith, c .window-tag .ensures, small)
 
-slice-write-marks : tie.Need-slice-write-marks Inv-loop μ-loop
-slice-write-marks c =
+slice-write-work : tie.Need-slice-write-work Inv-loop μ-loop
+slice-write-work c =
     let l = c .before .before .before .before .before in
     let b = l .before .before in
     let s = b .before .before .before in
-    omega (arith, l .loop .inv .2 .retagged .same-length, s .pre .1 .1 .1, b .begin .ensures, start-bound (s .args .n) (s .args .table .now) (s .pre .0) (s .args .round + 3) 0)
+    omega (arith, l .loop .inv .2 .retagged .same-length, s .pre .0 .room, b .begin .ensures, start-bound (s .pre .0 .sound .accepted) (s .args .round + 3) 0)
 
 loop-again : tie.Need-loop-again Inv-loop μ-loop
 loop-again c =
@@ -77,9 +77,9 @@ loop-again c =
     let a = s .args in
     let t = a .table .now in
     let tag-at = tag-of (a .n) t (a .round) (a .leader) (a .b) (a .e) in
-    let low : l .loop .w < length (l .loop .marks) = omega (arith, l .loop .inv .2 .retagged .same-length, s .pre .1 .1 .1, b .begin .ensures, start-bound (a .n) t (s .pre .0) (a .round + 3) 0) in
+    let low : l .loop .w < length (l .loop .work) = omega (arith, l .loop .inv .2 .retagged .same-length, s .pre .0 .room, b .begin .ensures, start-bound (s .pre .0 .sound .accepted) (a .round + 3) 0) in
     let tag : c .with-tag .result % 128 ≡ tag-at (l .loop .w) = c .with-tag .ensures .1 ∙ f .window-tag .ensures ∙ ap (λ x. windowTag x (a .b) (a .e)) (p .certified-at .ensures) in
-    (omega arith, omega arith, tagged-next (l .before .begin2 .result) tag-at (a .marks .now) (l .loop .w) (l .loop .marks) (c .with-tag .result) low (c .with-tag .ensures .0) tag (l .loop .inv .2))
+    (omega arith, omega arith, tagged-next (l .before .begin2 .result) tag-at (a .work .now) (l .loop .w) (l .loop .work) (c .with-tag .result) low (c .with-tag .ensures .0) tag (l .loop .inv .2))
 
 same-length : tie.Need-same-length Inv-loop μ-loop
 same-length c = c .before .loop .inv .2 .retagged .same-length
@@ -91,7 +91,7 @@ returns c =
     let s = b .before .before .before in
     let a = s .args in
     let t = a .table .now in
-    tagged-end (a .n) t (s .pre .0) (a .round + 2) (a .round + 3) (l .before .begin2 .result) (tag-of (a .n) t (a .round) (a .leader) (a .b) (a .e)) (a .marks .now) (l .loop .marks) (l .loop .w) (omega arith) (l .before .begin2 .ensures) (omega (arith, b .begin .ensures)) (l .loop .inv .2)
+    tagged-end (s .pre .0 .sound .accepted) (a .round + 2) (a .round + 3) (l .before .begin2 .result) (tag-of (a .n) t (a .round) (a .leader) (a .b) (a .e)) (a .work .now) (l .loop .work) (l .loop .w) (omega arith) (l .before .begin2 .ensures) (omega (arith, b .begin .ensures)) (l .loop .inv .2)
 
 pub tag-certified-spec : {M : Type 1} → statement M
 tag-certified-spec =
@@ -105,7 +105,7 @@ tag-certified-spec =
     slice-read-with-tag
     (λ c κs. search needs)
     with-tag-requires
-    slice-write-marks
+    slice-write-work
     (λ c. search needs) (λ c. search needs)
     loop-again
     same-length

@@ -1,31 +1,45 @@
 -- `settlement::counts::twins` meets its contract.
 -- Assumes nothing.
+use Prim.Native.Nat.{_+_}
 use native.Mathlib.Omega.{arith}
-use Rattle.settlement.proofs.Counting.{other-rounds, same-rounds}
+use Rattle.rules.proofs.Records.{vertices-length}
+use Rattle.rules.specs.Record.{first, vertices}
+use Rattle.settlement.proofs.Counting.{named-at, other-rounds, same-rounds}
 use borrow.Author.Needs.{needs}
 use Rattle.settlement.proofs.counts.twins.Statement.{statement}
 use Rattle.settlement.proofs.counts.twins.Tie as tie
 
+add-part : tie.Need-add-part
+add-part c =
+    let s = c .before .before .before in
+    record { fits = omega (arith, s .pre, vertices-length first (s .args .table .now)) }
+
 returns : tie.Need-returns
 returns c =
-    let x = c .before .before .before .before .before in
-    let a = x .before .before .before .args in
-    other-rounds (a .table .now) (a .p) (x .name-of .result) (c .before .before .before .name-of2 .result) (omega arith) (x .name-of .ensures) (c .before .before .before .name-of2 .ensures) (c .if1 .taken)
+    let y = c .before .before .before in
+    let x = y .before .before in
+    let s = x .before .before .before in
+    let t = s .args .table .now in
+    let is-x = named-at t (s .args .p) _ (x .name-of .result) (omega (arith, s .pre)) (x .before .part .ensures .bytes) (x .name-of .ensures) in
+    let is-y = named-at t (s .args .p + 1) _ (y .name-of2 .result) (s .pre) (y .before .part2 .ensures .bytes) (y .name-of2 .ensures) in
+    other-rounds (vertices first t) (s .args .p) (x .name-of .result) (y .name-of2 .result) is-x is-y (c .if1 .taken)
 
 returns-2 : tie.Need-returns-2
 returns-2 c =
     let y = c .before .before .before .before .before in
     let x = y .before .before in
-    let a = x .before .before .before .args in
-    same-rounds (a .table .now) (a .p) (x .name-of .result) (y .name-of2 .result) (omega arith) (x .name-of .ensures) (y .name-of2 .ensures) (c .before .before .if1 .left)
+    let s = x .before .before .before in
+    let t = s .args .table .now in
+    let is-x = named-at t (s .args .p) _ (x .name-of .result) (omega (arith, s .pre)) (x .before .part .ensures .bytes) (x .name-of .ensures) in
+    let is-y = named-at t (s .args .p + 1) _ (y .name-of2 .result) (s .pre) (y .before .part2 .ensures .bytes) (y .name-of2 .ensures) in
+    same-rounds (vertices first t) (s .args .p) (x .name-of .result) (y .name-of2 .result) is-x is-y (c .before .before .if1 .left)
 
 pub twins-spec : {M : Type 1} → statement M
 twins-spec =
     tie.close
     (tie.spec
-    (λ c. search needs) (λ c. search needs) (λ c. search needs) (λ c. search needs) (λ c. search needs)
-    (λ c. search needs) (λ c κs. search needs) (λ c. search needs) (λ c. search needs) (λ c. search needs)
-    (λ c. search needs) (λ c. search needs) (λ c. search needs) (λ c. search needs) (λ c. search needs)
-    (λ c κs. search needs)
+    (λ c κs. search needs) (λ c κs. search needs)
+    add-part
+    (λ c κs. search needs) (λ c κs. search needs)
     returns
     returns-2)

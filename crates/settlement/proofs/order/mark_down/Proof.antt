@@ -1,19 +1,18 @@
 -- `settlement::order::mark_down` meets its contract. The loop's invariant: all from p on have marked what they reference, if they are due, and
 -- nothing below `low` is due. The measure is p.
 -- Assumes nothing.
-use Prim.Native.Nat.{_≤_, _<_}
-use lib.ListN.{length}
 use Rattle.rules.specs.Record.{first, vertices}
-use Rattle.rules.proofs.Records.{vertices-length}
 use Rattle.rules.proofs.Accepted.{accepted}
-use Rattle.settlement.proofs.Writing.{Begun, Down, begun, begun-length, down-of, down-start, down-due, down-other, down-end}
+use Rattle.rules.specs.Support.{references}
+use Rattle.decide.proofs.Marked.{by-references}
+use Rattle.settlement.proofs.Downward.{Begun, Down, begun, begun-length, down-of, down-start, down-due, down-other, down-end}
 use native.Mathlib.Omega.{arith}
 use borrow.Author.Needs.{needs}
 use Rattle.settlement.proofs.order.mark_down.Statement.{statement}
 use Rattle.settlement.proofs.order.mark_down.Tie as tie
 
 abbrev Inv-loop : tie.InvT-loop
-Inv-loop n table a taken₀ low₀ p₀ taken low p = Begun (vertices first table) a taken₀ × Down (vertices first table) a taken₀ p low taken
+Inv-loop n table a taken₀ low₀ p₀ taken low p = Begun references (vertices first table) a taken₀ × Down references (vertices first table) a taken₀ p low taken
 
 abbrev μ-loop : tie.MeasureT-loop
 μ-loop n table a taken₀ low₀ p₀ taken low p = p
@@ -25,11 +24,11 @@ loop-holds c =
     let t = s .args .table .now in
     let m = s .args .taken .now in
     let a = s .args .a in
-    let w : a < length (vertices first t) = rw (vertices-length first t) (omega arith) in
-    let room : length (vertices first t) ≤ length m = rw (vertices-length first t) (omega arith) in
-    let B = begun a w m room (s .pre .1 .1 .1) (o .mark-one .result) (o .mark-one .last .1 .1 .0) (o .mark-one .ensures) in
-    let k = begun-length a w m room (s .pre .1 .1 .1) (o .mark-one .result) (o .mark-one .last .1 .1 .0) (o .mark-one .ensures) in
-    (B, down-start (accepted first (s .args .n) t (s .pre .0)) a w (o .mark-one .last .1 .1 .0) (omega (arith, room, k)) B (o .mark-one .result) (o .mark-one .ensures .lower))
+    let w = s .pre .1 .0 in
+    let room = s .pre .0 .room in
+    let B = begun a w m room (s .pre .1 .1) (o .mark-one .result) (o .mark-one .last .1 .1 .0) (o .mark-one .ensures) in
+    let k = begun-length a w m room (s .pre .1 .1) (o .mark-one .result) (o .mark-one .last .1 .1 .0) (o .mark-one .ensures) in
+    (B, down-start (s .pre .0 .sound .accepted) (by-references (s .pre .0 .sound .accepted)) a w (o .mark-one .last .1 .1 .0) (omega (arith, room, k)) B (o .mark-one .result) (o .mark-one .ensures .lower))
 
 loop-again : tie.Need-loop-again Inv-loop μ-loop
 loop-again c =
@@ -40,12 +39,12 @@ loop-again c =
     let m = s .args .taken .now in
     let m1 = o .mark-one .last .1 .1 .0 in
     let a = s .args .a in
-    let w : a < length (vertices first t) = rw (vertices-length first t) (omega arith) in
-    let room : length (vertices first t) ≤ length m = rw (vertices-length first t) (omega arith) in
-    let k = begun-length a w m room (s .pre .1 .1 .1) (o .mark-one .result) m1 (o .mark-one .ensures) in
-    let A = accepted first (s .args .n) t (s .pre .0) in
+    let w = s .pre .1 .0 in
+    let room = s .pre .0 .room in
+    let k = begun-length a w m room (s .pre .1 .1) (o .mark-one .result) m1 (o .mark-one .ensures) in
+    let A = s .pre .0 .sound .accepted in
     let B = l .loop .inv .0 in
-    (B, down-due A a w m1 (omega (arith, room, k)) B (l .loop .p) (l .loop .low) (l .loop .taken) (omega arith) (l .loop .inv .1) (c .before .before .mark-more .result) (c .before .before .mark-more .last .1 .1 .1 .1 .0) (c .before .before .before .before .if1 .taken) (c .before .before .mark-more .ensures))
+    (B, down-due A (by-references A) a w m1 (omega (arith, room, k)) B (l .loop .p) (l .loop .low) (l .loop .taken) (omega arith) (l .loop .inv .1) (c .before .before .mark-more .result) (c .before .before .mark-more .last .1 .1 .1 .1 .0) (c .before .before .before .before .if1 .taken) (c .before .before .mark-more .ensures))
 
 loop-again-2 : tie.Need-loop-again-2 Inv-loop μ-loop
 loop-again-2 c =
@@ -56,12 +55,12 @@ loop-again-2 c =
     let m = s .args .taken .now in
     let m1 = o .mark-one .last .1 .1 .0 in
     let a = s .args .a in
-    let w : a < length (vertices first t) = rw (vertices-length first t) (omega arith) in
-    let room : length (vertices first t) ≤ length m = rw (vertices-length first t) (omega arith) in
-    let k = begun-length a w m room (s .pre .1 .1 .1) (o .mark-one .result) m1 (o .mark-one .ensures) in
-    let A = accepted first (s .args .n) t (s .pre .0) in
+    let w = s .pre .1 .0 in
+    let room = s .pre .0 .room in
+    let k = begun-length a w m room (s .pre .1 .1) (o .mark-one .result) m1 (o .mark-one .ensures) in
+    let A = s .pre .0 .sound .accepted in
     let B = l .loop .inv .0 in
-    (B, down-other A a w m1 (omega (arith, room, k)) B (l .loop .p) (l .loop .low) (l .loop .taken) (omega arith) (l .loop .inv .1) (c .if1 .left))
+    (B, down-other A (by-references A) a w m1 (omega (arith, room, k)) B (l .loop .p) (l .loop .low) (l .loop .taken) (omega arith) (l .loop .inv .1) (c .if1 .left))
 
 returns : tie.Need-returns Inv-loop μ-loop
 returns c =
@@ -72,12 +71,12 @@ returns c =
     let m = s .args .taken .now in
     let m1 = o .mark-one .last .1 .1 .0 in
     let a = s .args .a in
-    let w : a < length (vertices first t) = rw (vertices-length first t) (omega arith) in
-    let room : length (vertices first t) ≤ length m = rw (vertices-length first t) (omega arith) in
-    let k = begun-length a w m room (s .pre .1 .1 .1) (o .mark-one .result) m1 (o .mark-one .ensures) in
-    let A = accepted first (s .args .n) t (s .pre .0) in
+    let w = s .pre .1 .0 in
+    let room = s .pre .0 .room in
+    let k = begun-length a w m room (s .pre .1 .1) (o .mark-one .result) m1 (o .mark-one .ensures) in
+    let A = s .pre .0 .sound .accepted in
     let B = l .loop .inv .0 in
-    down-of a w m room (s .pre .1 .1 .1) (o .mark-one .result) m1 (o .mark-one .ensures) (l .loop .low) (l .loop .taken) (down-end A a w m1 (omega (arith, room, k)) B (l .loop .p) (l .loop .low) (l .loop .taken) (omega arith) (l .loop .inv .1))
+    down-of a w m room (s .pre .1 .1) (o .mark-one .result) m1 (o .mark-one .ensures) (l .loop .low) (l .loop .taken) (down-end A (by-references A) a w m1 (omega (arith, room, k)) B (l .loop .p) (l .loop .low) (l .loop .taken) (omega arith) (l .loop .inv .1))
 
 pub mark-down-spec : {M : Type 1} → statement M
 mark-down-spec =

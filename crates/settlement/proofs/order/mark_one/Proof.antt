@@ -1,7 +1,7 @@
 -- `settlement::order::mark_one` meets its contract.
 -- Assumes nothing.
 use native.Mathlib.Omega.{arith}
-use Rattle.settlement.proofs.Writing.{one-kept, one-marked}
+use Rattle.settlement.proofs.Marking.{one-kept, one-marked}
 use borrow.Author.Needs.{needs}
 use Rattle.settlement.proofs.order.mark_one.Statement.{statement}
 use Rattle.settlement.proofs.order.mark_one.Tie as tie

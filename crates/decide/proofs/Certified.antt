@@ -23,8 +23,8 @@ use Rattle.rules.proofs.Names.{name-path, same-name, name-same}
 use Rattle.rules.proofs.Records.{find-name}
 use Rattle.rules.proofs.Accepted.{Accepted, mark-pos, entry-low, find-at}
 use Rattle.rules.proofs.Support.{references-is, is-references}
-use Rattle.table.specs.Search.{findBelow}
-use Rattle.table.proofs.Finds.{find-below}
+use Rattle.search.specs.Search.{findBelow}
+use Rattle.search.proofs.Finds.{find-below}
 use Rattle.references.specs.Places.{placesOf}
 use Rattle.references.proofs.Found.{reference-at, no-reference}
 use Rattle.tally.specs.Marks.{countMark, enoughOf}

@@ -13,35 +13,39 @@ use Rattle.folds.proofs.Tests.{or-left, or-right, or-false}
 use Rattle.rules.specs.declared.Vertex.{Vertex}
 use Rattle.rules.specs.declared.Refusal.{Refusal}
 use Rattle.rules.specs.declared.Refusal.the-variants.{Lent}
+use Rattle.rules.specs.declared.Checked.{Checked}
 use Rattle.rules.specs.declared.Checked.the-variants.{Passed, Refused}
+use Rattle.rules.specs.Refusals.{passed, refusalTells, checkTells}
 use Rattle.rules.specs.Record.{first, records, vertices}
 use Rattle.rules.specs.Check.{check}
 use Rattle.rules.specs.Decision.{cell}
 use Rattle.rules.specs.Decide.{boxSetting, highest, decisions}
-use Rattle.rules.specs.Settlement.{Buffers, writtenOver, tooShort}
-use Rattle.rules.proofs.Refusals.{then-refused, then-passed, when-yes, when-no}
+use Rattle.rules.specs.Settlement.{Buffers, writtenOver, tooShort, lentCheck}
+use Rattle.rules.proofs.Refusals.{then-passed, when-yes, when-no, hands-on}
 use Rattle.rules.proofs.Records.{vertices-length}
 use Rattle.decide.specs.Ready.{Ready}
 use Rattle.decide.proofs.Passed.{sound}
-use Rattle.decide.specs.Promise.{DecidesTo, lentCheck, cellsAfter, takenAfter}
+use Rattle.decide.specs.Promise.{DecidesTo, cellsAfter, takenAfter}
 
 module _ (n : ℕ) (t : List ℕ) (b : Buffers) where
   abbrev vs : List Vertex
   vs = vertices first t
 
   -- a refusal leaves all as it was
-  refused : (r : Refusal) → lentCheck n t b ≡ Refused r → DecidesTo n t b (Refused r) (b .cells) (b .taken)
+  leaves-all : (r : Refusal) → lentCheck (boxSetting n) first n t b ≡ refusalTells r → DecidesTo n t b (Refused r) (b .cells) (b .taken)
   unfolding cellsAfter takenAfter
-  refused r e = record { answer = sym e; in-cells = refl; in-taken = refl }
+  leaves-all r e = record { answer = sym e; in-cells = refl; in-taken = refl }
 
   -- that of the table
-  pub refused-table : (r : Refusal) → check first n t ≡ Refused r → DecidesTo n t b (Refused r) (b .cells) (b .taken)
-  refused-table r e = refused r (then-refused _ _ e)
+  pub refused-table : (x : Checked) (r : Refusal) → checkTells x ≡ check first n t → x ≡ Refused r → DecidesTo n t b (Refused r) (b .cells) (b .taken)
+  unfolding lentCheck
+  refused-table x r e f = leaves-all r (sym (hands-on (check first n t) _ e f))
 
-  module _ (passes : check first n t ≡ Passed) where
+  module _ (passes : check first n t ≡ passed) where
     -- that of a lent buffer
     too-short : tooShort (boxSetting n) vs b ≡ true → DecidesTo n t b (Refused Lent) (b .cells) (b .taken)
-    too-short e = refused Lent (then-passed _ _ passes ∙ when-yes _ _ e)
+    unfolding lentCheck
+    too-short e = leaves-all Lent (then-passed _ _ passes ∙ when-yes _ _ e)
 
     pub short-cells : length (b .cells) < highest vs → DecidesTo n t b (Refused Lent) (b .cells) (b .taken)
     unfolding tooShort
@@ -68,7 +72,7 @@ module _ (n : ℕ) (t : List ℕ) (b : Buffers) where
 
       pub decided-to : highest vs ≤ length (b .cells) → k ≤ length (b .order) → k ≤ length (b .taken) → (cells taken : List ℕ)
           → cells ≡ writtenOver (map cell (decisions (boxSetting n) n vs)) (b .cells) → taken ≡ bytesOver (λ p. 0) k (b .taken) → DecidesTo n t b Passed cells taken
-      unfolding cellsAfter takenAfter tooShort
+      unfolding cellsAfter takenAfter tooShort lentCheck
       decided-to c o l cells taken e f = record {
         answer = sym (then-passed _ _ passes ∙ when-no _ _ (or-false _ _ (le-ltb _ _ c) (or-false _ _ (le-ltb (length (b .order)) (length vs) (omega (arith, o, all-records))) (le-ltb (length (b .taken)) (length vs) (omega (arith, l, all-records))))));
         in-cells = e;

@@ -9,26 +9,26 @@ use lib.ListN.{length, List·getD-eq-default}
 use borrow.Author.Tests.{ltb-true, ltb-false}
 use Rattle.folds.proofs.Tests.{by-test}
 use Rattle.rules.specs.declared.Vertex.{Vertex}
-use Rattle.rules.specs.declared.Checked.the-variants.{Passed}
+use Rattle.rules.specs.Refusals.{passed}
 use Rattle.rules.specs.Record.{Edition, records, vertices, noVertex, at}
-use Rattle.rules.specs.Check.{roundAbove, checkRecord, check}
+use Rattle.rules.specs.Check.{roundAbove, checkRecord, checkTable, check}
 use Rattle.rules.specs.Decide.{highest}
 use Rattle.rules.proofs.Records.{vertices-length}
 use Rattle.rules.proofs.Refusals.{when-passed, then-both, each-passed}
 use Rattle.rules.proofs.Accepted.{accepted}
 use Rattle.decide.specs.Ready.{lastRound, Sound, Ready}
 
-module _ (E : Edition) (n : ℕ) (t : List ℕ) (ok : check E n t ≡ Passed) where
+module _ (E : Edition) (n : ℕ) (t : List ℕ) (ok : check E n t ≡ passed) where
   few : records E t ≤ 4096
-  unfolding check
+  unfolding check checkTable
   few =
       let e1 = then-both _ _ ok in
       let e2 = then-both _ _ (e1 .1) in
       let e3 = then-both _ _ (e2 .1) in
-      ltb-false _ _ (when-passed _ _ (e3 .0))
+      ltb-false _ _ (when-passed _ _ _ (e3 .0))
 
   round-low : (p : ℕ) → p < records E t → at (vertices E t) p .round ≤ lastRound
-  unfolding check checkRecord roundAbove
+  unfolding check checkTable checkRecord roundAbove
   round-low p l =
       let e1 = then-both _ _ ok in
       let e2 = then-both _ _ (e1 .1) in
@@ -38,7 +38,7 @@ module _ (E : Edition) (n : ℕ) (t : List ℕ) (ok : check E n t ≡ Passed) wh
       let e6 = then-both _ _ (e5 .1) in
       let e7 = then-both _ _ (e6 .1) in
       let e8 = then-both _ _ (e7 .1) in
-      ltb-false _ _ (when-passed _ _ (e8 .1))
+      ltb-false _ _ (when-passed _ _ _ (e8 .1))
 
   highest-low : highest (vertices E t) ≤ lastRound
   unfolding highest

@@ -18,9 +18,9 @@ use Rattle.rules.specs.Record.{first, records, vertices, at, nameOf, below, nam
 use Rattle.rules.proofs.Records.{vertices-length}
 use Rattle.rules.proofs.Accepted.{Accepted, rising}
 use Rattle.rules.proofs.Names.{Below, below-is, is-below, below-trans}
-use Rattle.table.specs.Search.{nameAt, placeOf}
-use Rattle.table.proofs.Names.{name-at}
-use Rattle.table.proofs.Finds.{place-first, rise-all}
+use Rattle.search.specs.Search.{nameAt, placeOf}
+use Rattle.search.proofs.Names.{name-at}
+use Rattle.search.proofs.Finds.{place-first, rise-all}
 use Rattle.decide.specs.Range.{startOf}
 
 -- of a lower round, or of the round and by a lower author

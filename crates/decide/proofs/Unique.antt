@@ -7,6 +7,7 @@ use mathlib.Core.List.{List}
 use denote.Ref.{now}
 use Rattle.rules.specs.declared.Checked.{Checked}
 use Rattle.rules.specs.Settlement.{Buffers}
+use Rattle.rules.proofs.Refusals.{check-unique}
 use Rattle.rules.proofs.Only.{Only}
 use Rattle.decide.specs.Promise.{DecidesTo, cellsAfter, takenAfter}
 use Rattle.decide.proofs.decide.Kinds as decide-kinds
@@ -15,7 +16,7 @@ use Rattle.decide.proofs.decide.Reads as decide
 decides-once : {n : ℕ} {t : List ℕ} {before : Buffers} {x y : Checked} {c d k l : List ℕ} → DecidesTo n t before x c k → DecidesTo n t before y d l → (x ≡ y) × ((c ≡ d) × (k ≡ l))
 decides-once {n} {t} {before} p q =
     let e = p .answer ∙ sym (q .answer) in
-    (e, (p .in-cells ∙ ap (λ r. cellsAfter r n t (before .cells)) e ∙ sym (q .in-cells), p .in-taken ∙ ap (λ r. takenAfter r t (before .taken)) e ∙ sym (q .in-taken)))
+    (check-unique _ _ e, (p .in-cells ∙ ap (λ c. cellsAfter c n t (before .cells)) e ∙ sym (q .in-cells), p .in-taken ∙ ap (λ c. takenAfter c t (before .taken)) e ∙ sym (q .in-taken)))
 
 pub decide-unique : Only 4 decide-kinds.ps decide-kinds.r (λ κs x e y f. (x ≡ y) × ((now (e .1 .1 .0) ≡ now (f .1 .1 .0)) × (now (e .1 .1 .1 .1 .0) ≡ now (f .1 .1 .1 .1 .0)))) decide.Post
 decide-unique κs a x y e f p q = decides-once p q

@@ -9,7 +9,7 @@ ghost use Rattle.decide.specs.Certify.{backs, certifiedAt};
 use crate::range::entry_at;
 use references::places_of;
 use rules::Name;
-use table::find;
+use search::find;
 use tally::enough_of;
 use tally::quorum_of;
 

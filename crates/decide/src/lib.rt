@@ -38,7 +38,7 @@ pub fn decide(n: u8, table: &[u8], cells: &mut [u32], order: &[u32], taken: &mut
         Checked::Refused(r) => return Checked::Refused(r),
     }
     let k = record::records_of(table);
-    let top = table::highest_of(table) as usize;
+    let top = search::highest_of(table) as usize;
     if cells.len() < top {
         return Checked::Refused(Refusal::Lent);
     }

@@ -5,7 +5,7 @@ ghost use Rattle.rules.specs.Record.{first, at, entry};
 ghost use Rattle.decide.specs.Ready.{verticesOf, recordsOf, Sound};
 ghost use Rattle.decide.specs.Range.{startOf};
 use rules::Name;
-use table::place;
+use search::place;
 
 // The first record of the round by that author or a higher one, or of a higher round.
 pub(crate) fn begin(n: u8, table: &[u8], round: u32, author: u8) -> usize

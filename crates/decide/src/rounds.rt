@@ -20,7 +20,7 @@ use crate::history::Walk;
 use crate::history::certified_in;
 use crate::history::walk_to;
 use crate::range::begin;
-use table::highest_of;
+use search::highest_of;
 
 // A round's cell, and how far the history of an anchor is marked then.
 pub(crate) struct Round {

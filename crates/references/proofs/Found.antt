@@ -19,9 +19,9 @@ use Rattle.rules.specs.Record.{first, records, vertices, at, nameOf, entry, ent
 use Rattle.rules.proofs.Names.{name-same, Below, below-is, is-below, below-trans, below-irrefl}
 use Rattle.rules.proofs.Records.{vertices-length, vertices-at, find-name}
 use Rattle.rules.proofs.Accepted.{Accepted, earlier, rising}
-use Rattle.table.specs.Search.{nameAt, placeOf, findBelow}
-use Rattle.table.proofs.Names.{name-at}
-use Rattle.table.proofs.Search.{Falls, halves-first, found-here}
+use Rattle.search.specs.Search.{nameAt, placeOf, findBelow}
+use Rattle.search.proofs.Names.{name-at}
+use Rattle.search.proofs.Search.{Falls, halves-first, found-here}
 use Rattle.references.specs.Places.{placeAmong, placesAmong, placesOf}
 
 -- a name that stands among the first p records is found among them

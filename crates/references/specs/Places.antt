@@ -9,7 +9,7 @@ use Rattle.folds.specs.Folds.{tabulate}
 use Rattle.rules.specs.declared.Name.{Name}
 use Rattle.rules.specs.declared.Vertex.{Vertex}
 use Rattle.rules.specs.Record.{first, records, recordAt, decode, named}
-use Rattle.table.specs.Search.{findBelow}
+use Rattle.search.specs.Search.{findBelow}
 
 -- Where the name stands among the first p records. A name with mark 0 is no reference: p.
 unfoldable pub placeAmong : List ℕ → ℕ → Name → ℕ

@@ -4,7 +4,7 @@ ghost use Prim.Native.Nat.{pred};
 ghost use Rattle.rules.specs.Record.{first, recordAt, decode as decoded};
 ghost use Rattle.references.specs.Places.{placeAmong, placesAmong, placesOf};
 use rules::Name;
-use table::find;
+use search::find;
 
 // The round before. Round 0, which no table that passes has, is kept.
 fn round_before(round: u32) -> u32

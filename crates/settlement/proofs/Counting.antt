@@ -21,7 +21,7 @@ use Rattle.rules.specs.Settlement.{equivocates, equivocators}
 use Rattle.rules.proofs.Names.{Below, is-below, below-round, below-mark}
 use Rattle.rules.proofs.Records.{vertices-length}
 use Rattle.rules.proofs.Accepted.{Accepted, author-low, rising}
-use Rattle.table.proofs.Names.{name-at}
+use Rattle.search.proofs.Names.{name-at}
 use Rattle.folds.proofs.Over.{or-last, set-tabulate}
 
 -- ---- a search from below

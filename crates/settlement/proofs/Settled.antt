@@ -25,7 +25,8 @@ use Rattle.rules.specs.Check.{check}
 use Rattle.rules.specs.Decision.{Decision, undecided, skipped, committed, cell}
 use Rattle.rules.specs.Decide.{boxSetting, highest, decisions, decisionAt}
 use Rattle.rules.specs.Order.{order, firstUndecided}
-use Rattle.rules.specs.Settlement.{Buffers, lent, writtenOver, takenBytes, tooShort, equivocators, countsOf, settled, settleIf, settle}
+use Rattle.rules.specs.Refusals.{gives, passed, outcomeTells}
+use Rattle.rules.specs.Settlement.{Buffers, lent, writtenOver, takenBytes, tooShort, lentCheck, equivocators, countsOf, settled, settleIf, settle}
 use Rattle.rules.proofs.Refusals.{then-both, when-passed}
 use Rattle.rules.proofs.Records.{vertices-length}
 use Rattle.rules.proofs.Decide.{decisions-length}
@@ -97,7 +98,7 @@ module _ (n : ℕ) (t : List ℕ) (b : Buffers) where
   -- a refusal leaves all as it was
   pub refused-to : (x : Settlement) (r : Refusal) (cells taken : List ℕ) → DecidesTo n t b (Refused r) cells taken → x .outcome ≡ outcome.Refused r → SettlesTo n t b x (lent cells (b .order) taken)
   unfolding settle settleIf cellsAfter takenAfter
-  refused-to x r cells taken D o = let e = sym (D .answer) in record { outcome = rw e o; cells = rw e (D .in-cells); order = rw e; taken = rw e (D .in-taken) }
+  refused-to x r cells taken D o = let e = sym (D .answer) in record { outcome = rw e (ap outcomeTells o); cells = rw e (D .in-cells); order = rw e; taken = rw e (D .in-taken) }
 
   -- a settled table
   module _ (cells taken : List ℕ) (D : DecidesTo n t b Passed cells taken) where
@@ -114,11 +115,13 @@ module _ (n : ℕ) (t : List ℕ) (b : Buffers) where
     unfolding takenAfter
     untaken = D .in-taken
 
-    passes : check first n t ≡ Passed
+    passes : check first n t ≡ passed
+    unfolding lentCheck
     passes = then-both _ _ (sym (D .answer)) .0
 
     long-enough : tooShort (boxSetting n) vs b ≡ false
-    long-enough = when-passed _ _ (then-both _ _ (sym (D .answer)) .1)
+    unfolding lentCheck
+    long-enough = when-passed _ _ _ (then-both _ _ (sym (D .answer)) .1)
 
     slots : highest vs ≤ length (b .cells)
     unfolding tooShort
@@ -165,7 +168,7 @@ module _ (n : ℕ) (t : List ℕ) (b : Buffers) where
         → order′ ≡ writtenOver (order (boxSetting n) n vs) (b .order) → taken′ ≡ writtenOver (takenBytes (order (boxSetting n) n vs) (length vs)) taken
         → SettlesTo n t b x (lent cells order′ taken′)
     unfolding settle settleIf settled order
-    settled-to x order′ taken′ counts e q e2 e3 = let fits = sym (D .answer) in record { outcome = rw fits (e ∙ ap outcome.Settled q); cells = rw fits decided-cells; order = rw fits e2; taken = rw fits (e3 ∙ past-records _) }
+    settled-to x order′ taken′ counts e q e2 e3 = let fits = sym (D .answer) in record { outcome = rw fits (ap outcomeTells e ∙ ap gives q); cells = rw fits decided-cells; order = rw fits e2; taken = rw fits (e3 ∙ past-records _) }
 
 -- the counts, one by one
 pub counts-are : (n : ℕ) (vs : List Vertex) (ds : List (Decision ℕ)) (w : List ℕ) (c : Counts) → c .records ≡ length vs → c .highest ≡ highest vs → c .undecided ≡ firstUndecided 1 ds

@@ -34,7 +34,7 @@ pub fn settle(
         Checked::Passed => {}
         Checked::Refused(r) => return refused(r),
     }
-    let highest = table::highest_of(table);
+    let highest = search::highest_of(table);
     let top = highest as usize;
     let written = order::write_order(n, table, top, cells, order, taken);
     let counts = Counts {

@@ -4,30 +4,31 @@ use mathlib.Core.Path.{sym, _∙_}
 use native.Mathlib.Omega.{arith}
 use Rattle.rules.specs.Check.{check}
 use Rattle.rules.specs.Settlement.{lent}
+use Rattle.rules.proofs.Refusals.{goes-on}
 use Rattle.decide.proofs.Decided.{refused-table, short-cells, short-order, short-taken, ready, decided-to, lent-length, past-records}
 use borrow.Author.Needs.{needs}
 use Rattle.decide.proofs.decide.Statement.{statement}
 use Rattle.decide.proofs.decide.Tie as tie
 
 returns : tie.Need-returns
-returns c = let k = c .before .before .before in refused-table _ _ _ _ (sym (k .check .ensures) ∙ c .before .c .given .1)
+returns c = let k = c .before .before .before in refused-table _ _ _ _ _ (k .check .ensures) (c .before .c .given .1)
 
 returns-2 : tie.Need-returns-2
 returns-2 c =
     let h = c .before in
-    let passes = sym (h .before .before .before .before .check .ensures) ∙ h .before .before .enum-told .given .1 in
+    let passes = goes-on (h .before .before .before .before .check .ensures) (h .before .before .enum-told .given .1) in
     short-cells _ _ _ passes (omega (arith, h .highest-of .ensures, c .if1 .taken))
 
 returns-3 : tie.Need-returns-3
 returns-3 c =
     let h = c .before .before in
-    let passes = sym (h .before .before .before .before .check .ensures) ∙ h .before .before .enum-told .given .1 in
+    let passes = goes-on (h .before .before .before .before .check .ensures) (h .before .before .enum-told .given .1) in
     short-order _ _ _ passes _ (h .before .records-of .ensures) (omega (arith, c .if2 .taken))
 
 returns-4 : tie.Need-returns-4
 returns-4 c =
     let h = c .before .before .before in
-    let passes = sym (h .before .before .before .before .check .ensures) ∙ h .before .before .enum-told .given .1 in
+    let passes = goes-on (h .before .before .before .before .check .ensures) (h .before .before .enum-told .given .1) in
     short-taken _ _ _ passes _ (h .before .records-of .ensures) (omega (arith, c .if3 .taken))
 
 decide-all-requires : tie.Need-decide-all-requires
@@ -35,7 +36,7 @@ decide-all-requires c κs =
     let h = c .before .before .before .before .before in
     let s = h .before .before .before .before .before .before .before .before .before in
     let b = lent (s .args .cells .now) (s .args .order .now) (s .args .taken .now) in
-    let passes = sym (h .before .before .before .before .check .ensures) ∙ h .before .before .enum-told .given .1 in
+    let passes = goes-on (h .before .before .before .before .check .ensures) (h .before .before .enum-told .given .1) in
     (ready (s .args .n) (s .args .table .now) b passes _ (h .before .records-of .ensures) (omega arith), omega (arith, h .highest-of .ensures))
 
 clear-requires : tie.Need-clear-requires
@@ -49,7 +50,7 @@ returns-5 c =
     let d = c .before .before .before .before .before .before .before .before in
     let fit = d .before .before .before in
     let h = fit .before .before .before in
-    let passes = sym (h .before .before .before .before .check .ensures) ∙ h .before .before .enum-told .given .1 in
+    let passes = goes-on (h .before .before .before .before .check .ensures) (h .before .before .enum-told .given .1) in
     let cleared = past-records (d .decide-all .last .1 .1 .1 .0) (h .before .before .before .before .before .before .before .before .before .args .taken .now) (h .before .records-of .result) (omega (arith, fit .if3 .left)) (d .decide-all .ensures .1) (λ p. 0) in
     decided-to
     _ _ _

@@ -1,0 +1,17 @@
+-- `exports::checked_as` meets its contract.
+-- Assumes nothing.
+use borrow.Author.Needs.{needs}
+use Rattle.exports.proofs.checked_as.Statement.{statement}
+use Rattle.exports.proofs.checked_as.Tie as tie
+
+returns : tie.Need-returns
+returns c = ?
+
+returns-2 : tie.Need-returns-2
+returns-2 c = ?
+
+pub checked-as-spec : {M : Type 1} → statement M
+checked-as-spec = tie.close (tie.spec
+    (λ c. search needs) (λ c. search needs) (λ c κs. search needs)
+    returns
+    returns-2)

@@ -1,0 +1,14 @@
+-- `exports::record_box_lookup_answer` meets its contract.
+-- Assumes nothing.
+use borrow.Author.Needs.{needs}
+use Rattle.exports.proofs.record_box_lookup_answer.Statement.{statement}
+use Rattle.exports.proofs.record_box_lookup_answer.Tie as tie
+
+returns : tie.Need-returns
+returns c = ?
+
+pub record-box-lookup-answer-spec : {M : Type 1} → statement M
+record-box-lookup-answer-spec =
+    tie.close (tie.spec
+    (λ c κs. search needs) (λ c κs. search needs)
+    returns)

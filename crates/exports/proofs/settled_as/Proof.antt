@@ -1,0 +1,18 @@
+-- `exports::settled_as` meets its contract.
+-- Assumes nothing.
+use borrow.Author.Needs.{needs}
+use Rattle.exports.proofs.settled_as.Statement.{statement}
+use Rattle.exports.proofs.settled_as.Tie as tie
+
+returns : tie.Need-returns
+returns c = ?
+
+returns-2 : tie.Need-returns-2
+returns-2 c = ?
+
+pub settled-as-spec : {M : Type 1} → statement M
+settled-as-spec =
+    tie.close (tie.spec
+    (λ c. search needs) (λ c. search needs) (λ c κs. search needs)
+    returns
+    returns-2)

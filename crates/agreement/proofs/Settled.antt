@@ -7,6 +7,7 @@ use mathlib.Core.Logic.{_⊎_, inl, inr}
 use mathlib.Core.Bool.{Bool, true}
 use mathlib.Core.List.{List}
 use native.Mathlib.Omega.{arith}
+use native.Mathlib.Nat.{le-refl}
 use Rattle.folds.proofs.Tests.{compare}
 use Rattle.rules.specs.declared.Vertex.{Vertex}
 use Rattle.rules.specs.Record.{at}
@@ -16,7 +17,7 @@ use Rattle.rules.specs.History.{history}
 use Rattle.rules.specs.Decide.{Setting, boxSetting, certifiedIn, throughAnchor, decisions, decisionAt}
 use Rattle.rules.proofs.Accepted.{Accepted}
 use Rattle.rules.proofs.Decisions.{committed-decided, skipped-decided}
-use Rattle.rules.proofs.Decide.{Chosen, chosen, nobody, choose-is, Because, direct, skips, through, blocked, because}
+use Rattle.rules.proofs.Decide.{Chosen, chosen, nobody, choose-is, Because, direct, skips, through, blocked, past, because, past-stops}
 use Rattle.agreement.proofs.Boxes.{Why, by-commit, by-skip, by-anchor, by-nothing, Box, settled-below}
 use Rattle.agreement.proofs.World.{one-leader}
 
@@ -31,15 +32,16 @@ module _ (C : Setting) (later : (s : ℕ) → s < C .slots .start s) {n : ℕ} {
     Skips = λ s. C .skip n vs (C .slots .roundOf s) (C .slots .leaderOf s) ≡ true;
     pick = throughAnchor C n vs;
     dec = dec;
-    why = λ s. go s (because C later A s);
+    why = λ s. by-position s (because C later A s);
   }
     where
-      go : (s : ℕ) → Because C n vs s (dec s)
+      by-position : (s : ℕ) → Because C n vs s (dec s)
           → Why (C .slots .start) (λ s p. directCommit n vs (at vs p) ≡ true) (λ s. C .skip n vs (C .slots .roundOf s) (C .slots .leaderOf s) ≡ true) (throughAnchor C n vs) dec s
-      go s (direct p l i c e) = by-commit p c e
-      go s (skips k e) = by-skip k e
-      go s (through t a l f g e) = by-anchor t a l f g e
-      go s (blocked t l f g e) = by-nothing t l f g e
+      by-position s (direct p l i c m e) = by-commit p c e
+      by-position s (skips none k e) = by-skip k e
+      by-position s (through none t a l f g e) = by-anchor t a l f g e
+      by-position s (blocked none t l f g e) = by-nothing t l f g e
+      by-position s (past o e) = let k = past-stops C later A s o in by-nothing (C .slots .start s) (le-refl (C .slots .start s)) (k .0) (k .1) e
 
   anchor-decides : (s a : ℕ) → Decided (throughAnchor C n vs s a)
   unfolding throughAnchor

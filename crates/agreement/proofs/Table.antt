@@ -7,6 +7,7 @@ use mathlib.Core.Logic.{_≢_}
 use mathlib.Core.Bool.{true, false}
 use mathlib.Core.List.{List}
 use native.Mathlib.Omega.{arith}
+use native.Mathlib.Nat.{le-refl}
 use lib.ListN.{length, getD}
 use Rattle.folds.specs.Folds.{_and_, anyTo}
 use Rattle.folds.specs.Many.{Many}
@@ -26,7 +27,7 @@ use Rattle.rules.proofs.Accepted.{Accepted, earlier, find-at}
 use Rattle.rules.proofs.Support.{Has, references-is, blank-is, Backs, certifies-is, is-certifies, commit-is, skip-is}
 use Rattle.rules.proofs.History.{Downward, Follows, reached-at, history-length, history-sound, history-complete}
 use Rattle.rules.proofs.Decisions.{tell-committed}
-use Rattle.rules.proofs.Decide.{slot-is, is-slot, Chosen, chosen, nobody, choose-is, Because, direct, skips, through, blocked, because, leads}
+use Rattle.rules.proofs.Decide.{slot-is, is-slot, Chosen, chosen, nobody, choose-is, Because, direct, skips, through, blocked, past, because, past-stops, leads}
 use Rattle.agreement.specs.Agreement.{told}
 use Rattle.agreement.proofs.Boxes.{Why, by-commit, by-skip, by-anchor, by-nothing}
 use Rattle.agreement.proofs.World as world
@@ -195,17 +196,20 @@ module _ {n : ℕ} {step : StepRule} {W : World n step} {vs : List Vertex} (T : 
 
       pub why : (s : ℕ) → Why (S .start) Commit Skip pick dec s
       unfolding tell
-      why s = go (because (setting S skip step) (G .later) A s)
+      why s = told-so (because (setting S skip step) (G .later) A s)
         where
-          go : Because (setting S skip step) n vs s (decisionAt (decisions (setting S skip step) n vs) s) → Why (S .start) Commit Skip pick dec s
-          go (direct p l i c e) =
+          told-so : Because (setting S skip step) n vs s (decisionAt (decisions (setting S skip step) n vs) s) → Why (S .start) Commit Skip pick dec s
+          told-so (direct p l i c m e) =
               let here : find vs (name p) ≡ p = find-at A p l in
               by-commit (name p) (record { held = rw here l; slotted = rw here i; passes = rw here c }) (ap (tell name) e)
-          go (skips b e) = by-skip b (ap (tell name) e)
-          go (through t a l f g e) =
+          told-so (skips none b e) = by-skip b (ap (tell name) e)
+          told-so (through none t a l f g e) =
               by-anchor t (name a) l (λ u h h′. ap (tell name) (f u h h′)) (ap (tell name) g)
               (ap (tell name) e ∙ ap (λ p. tell name (throughAnchor (setting S skip step) n vs s p)) (sym (find-at A a (leads (setting S skip step) (G .later) A t a g .0))))
-          go (blocked t l f g e) = by-nothing t l (λ u h h′. ap (tell name) (f u h h′)) (ap (tell name) g) (ap (tell name) e)
+          told-so (blocked none t l f g e) = by-nothing t l (λ u h h′. ap (tell name) (f u h h′)) (ap (tell name) g) (ap (tell name) e)
+          told-so (past o e) =
+              let k = past-stops (setting S skip step) (G .later) A s o in
+              by-nothing (S .start s) (le-refl (S .start s)) (λ u h h′. ap (tell name) (k .0 u h h′)) (ap (tell name) (k .1)) (ap (tell name) e)
 
       pub picked : (s : ℕ) (x : Name) → Holds vs x → Picked W S (Holds vs) s x (pick s x)
       picked s x h = subst (λ y. Picked W S (Holds vs) s y (pick s x)) (find-name vs x h) (picks s (find vs x) h)

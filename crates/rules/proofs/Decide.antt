@@ -43,7 +43,8 @@ is-slot S s v i = and-true _ _ (eq-eqb _ _ (i .at-round)) (eq-eqb _ _ (i .by-lea
 -- ---- the lowest mark
 
 -- of two vertices of one slot the later one has the higher mark
-slot-rises : {n : ℕ} {vs : List Vertex} → Accepted n vs → (S : Slots) (s p q : ℕ) → p < q → q < length vs → InSlot S s (at vs p) → InSlot S s (at vs q) → at vs p .mark < at vs q .mark
+slot-rises : {n : ℕ} {vs : List Vertex} → Accepted n vs → (S : Slots) (s p q : ℕ) → p < q → q < length vs
+    → InSlot S s (at vs p) → InSlot S s (at vs q) → at vs p .mark < at vs q .mark
 slot-rises A S s p q l lq i j = below-mark _ _ (rising A p q l lq) (i .at-round ∙ sym (j .at-round)) (i .by-leader ∙ sym (j .by-leader))
 
 module _ {n : ℕ} {vs : List Vertex} (A : Accepted n vs) (S : Slots) (s : ℕ) (ok : Vertex → Bool) where

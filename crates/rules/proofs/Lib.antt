@@ -7,5 +7,7 @@ pub mod History
 pub mod Decisions
 pub mod Decide
 pub mod Highest
+pub mod Places
+pub mod Order
 pub mod Examples
 pub mod Only

@@ -8,6 +8,7 @@ pub mod Support
 pub mod History
 pub mod Decide
 pub mod Order
+pub mod Written
 pub mod Settlement
 pub mod Program
 pub mod Open

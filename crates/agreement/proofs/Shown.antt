@@ -21,12 +21,12 @@ use Rattle.rules.specs.Check.{check}
 use Rattle.rules.specs.Decision.{skipped, committed, tell}
 use Rattle.rules.specs.Decide.{boxSetting}
 use Rattle.rules.specs.Settlement.{equivocators}
-use Rattle.rules.specs.Tables.{unsummed, summed, v, p2, p3}
+use Rattle.rules.specs.Tables.{p2, p3}
 use Rattle.rules.specs.Open.{rules-open}
 use Rattle.rules.proofs.Names.{name-same}
 use Rattle.rules.proofs.Decisions.{skipped-apart, skipped-decided, committed-decided}
 use Rattle.agreement.specs.Agreement.{Premises, told}
-use Rattle.agreement.specs.Pairs.{mark2, commits1, otherRecord, twoTwice, Contradict, WithoutOneRecord, WithoutFew, Unseen}
+use Rattle.agreement.specs.Pairs.{commits1, otherRecord, twoTwice, Contradict, WithoutOneRecord, WithoutFew, Unseen}
 
 -- ---- one record to a name, as a test
 
@@ -104,28 +104,28 @@ unfolding tell
 contradict t u b e k A = skipped-apart e (A .alike 0 (λ z. committed-decided e (ap (tell _) z)) (λ z. skipped-decided k (ap (tell _) z)) ∙ k)
 
 passes-commits : check first 4 commits1 ≡ passes
-unfolding rules-open commits1 v unsummed summed
+unfolding rules-open commits1
 passes-commits = refl
 
 commits : told (boxSetting 4) 4 (vertices first commits1) 0 ≡ committed leader1
-unfolding rules-open commits1 v unsummed summed
+unfolding rules-open commits1
 commits = refl
 
 passes-record : check first 4 otherRecord ≡ passes
-unfolding rules-open otherRecord mark2 v unsummed summed
+unfolding rules-open otherRecord
 passes-record = refl
 
 skips-record : told (boxSetting 4) 4 (vertices first otherRecord) 0 ≡ skipped
-unfolding rules-open otherRecord mark2 v unsummed summed
+unfolding rules-open otherRecord
 skips-record = refl
 
 few-record : leb (equivocators 4 (vertices first commits1 ++ vertices first otherRecord)) (faults 4) ≡ true
-unfolding rules-open commits1 otherRecord mark2 v unsummed summed
+unfolding rules-open commits1 otherRecord
 few-record = refl
 
 -- one name stands for two records, and no other
 pub one-name : countTo (λ p. anyTo (clash first commits1 otherRecord p) (records first otherRecord)) (records first commits1) ≡ 1
-unfolding rules-open commits1 otherRecord mark2 v unsummed summed clash sameBytes
+unfolding rules-open commits1 otherRecord clash sameBytes
 one-name = refl
 
 pub without-one-record : WithoutOneRecord
@@ -137,19 +137,19 @@ without-one-record = record {
 }
 
 passes-twice : check first 4 twoTwice ≡ passes
-unfolding rules-open twoTwice mark2 v unsummed summed
+unfolding rules-open twoTwice
 passes-twice = refl
 
 skips-twice : told (boxSetting 4) 4 (vertices first twoTwice) 0 ≡ skipped
-unfolding rules-open twoTwice mark2 v unsummed summed
+unfolding rules-open twoTwice
 skips-twice = refl
 
 agree-twice : clashes first commits1 twoTwice ≡ false
-unfolding rules-open commits1 twoTwice mark2 v unsummed summed clashes clash sameBytes
+unfolding rules-open commits1 twoTwice clashes clash sameBytes
 agree-twice = refl
 
 many-twice : equivocators 4 (vertices first commits1 ++ vertices first twoTwice) ≡ suc (faults 4)
-unfolding rules-open commits1 twoTwice mark2 v unsummed summed
+unfolding rules-open commits1 twoTwice
 many-twice = refl
 
 pub without-few : WithoutFew
@@ -162,11 +162,11 @@ without-few = record {
 }
 
 none-commits : equivocators 4 (vertices first commits1) ≡ 0
-unfolding rules-open commits1 v unsummed summed
+unfolding rules-open commits1
 none-commits = refl
 
 none-twice : equivocators 4 (vertices first twoTwice) ≡ 0
-unfolding rules-open twoTwice mark2 v unsummed summed
+unfolding rules-open twoTwice
 none-twice = refl
 
 pub unseen : Unseen

@@ -10,4 +10,5 @@ pub mod Highest
 pub mod Places
 pub mod Order
 pub mod Examples
+pub mod PastF
 pub mod Only

@@ -14,3 +14,4 @@ pub mod Program
 pub mod Open
 pub mod Tables
 pub mod Examples
+pub mod PastF

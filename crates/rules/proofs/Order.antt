@@ -168,7 +168,7 @@ module _ (step : StepRule) (vs : List Vertex) (ds : List (Decision ℕ)) where
         new = filterTo (λ p. getD H p false and not (member p done)) (length H)
 
         leads-here : WrittenLeader ds k a
-        leads-here = record { commits = e; before = t .decided }
+        leads-here = record { commits = e; before = λ u l. t .decided u (omega arith) }
 
         -- what is new is of this slot's share
         new-share : (p : ℕ) → List·Memᴰ p new → Share k p

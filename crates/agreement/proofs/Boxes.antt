@@ -70,16 +70,16 @@ module _ {N : Type 0} {start : ℕ → ℕ} (later : (s : ℕ) → s < start s) 
   step s above (by-anchor t a l f g e) (by-nothing t′ l′ f′ g′ e′) hx hy = absurd (hy e′)
   step s above (by-anchor t a l f g e) (by-commit c k′ e′) hx hy = e ∙ yx .commit-anchor s t c a k′ l g ∙ sym e′
   step s above (by-anchor t a l f g e) (by-skip k′ e′) hx hy = e ∙ yx .skip-anchor s t a k′ l g ∙ sym e′
-  step s above (by-anchor t a l f g e) (by-anchor t′ a′ l′ f′ g′ e′) hx hy = go (compare t t′)
+  step s above (by-anchor t a l f g e) (by-anchor t′ a′ l′ f′ g′ e′) hx hy = one-anchor (compare t t′)
     where
-      go : (t < t′) ⊎ ((t ≡ t′) ⊎ (t′ < t)) → X .dec s ≡ Y .dec s
-      go (inl lt) =
+      one-anchor : (t < t′) ⊎ ((t ≡ t′) ⊎ (t′ < t)) → X .dec s ≡ Y .dec s
+      one-anchor (inl lt) =
           let k = f′ t l lt in absurd (skipped-apart g (above t (omega (arith, later s)) (committed-decided g) (skipped-decided k) ∙ k))
-      go (inr (inl q)) =
+      one-anchor (inr (inl q)) =
           let k : Y .dec t ≡ committed a′ = ap (Y .dec) q ∙ g′ in
           let same : a ≡ a′ = committed-same g (above t (omega (arith, later s)) (committed-decided g) (committed-decided k) ∙ k) in
           e ∙ xy .anchor-anchor s t a l g (k ∙ ap committed (sym same)) ∙ ap (Y .pick s) same ∙ sym e′
-      go (inr (inr gt)) =
+      one-anchor (inr (inr gt)) =
           let k = f t′ l′ gt in absurd (skipped-apart g′ (sym (above t′ (omega (arith, later s)) (skipped-decided k) (committed-decided g′)) ∙ k))
 
   -- from the last slot downward: s is at most k below the end
@@ -136,12 +136,12 @@ module _ {N : Type 0} {start : ℕ → ℕ} (later : (s : ℕ) → s < start s) 
       search s st above (by-commit b k q) z = committed-decided q z
       search s st above (by-skip k q) z = skipped-decided q z
       search s st above (by-anchor t b l f g q) z = picks s t b g (sym q ∙ z)
-      search s st above (by-nothing t l f g q) z = go (compare top t)
+      search s st above (by-nothing t l f g q) z = cannot-stop (compare top t)
         where
-          go : (top < t) ⊎ ((top ≡ t) ⊎ (t < top)) → ⊥
-          go (inl lt) = skipped-apart e (f top st lt)
-          go (inr (inl w)) = above t (omega (arith, later s)) (omega arith) g
-          go (inr (inr gt)) = above t (omega (arith, later s)) (omega arith) g
+          cannot-stop : (top < t) ⊎ ((top ≡ t) ⊎ (t < top)) → ⊥
+          cannot-stop (inl lt) = skipped-apart e (f top st lt)
+          cannot-stop (inr (inl w)) = above t (omega (arith, later s)) (omega arith) g
+          cannot-stop (inr (inr gt)) = above t (omega (arith, later s)) (omega arith) g
 
       down : (k s : ℕ) → low ≤ s + k → s ≤ top → Decided (X .dec s)
       down zero s h h′ = all s (omega arith) h′

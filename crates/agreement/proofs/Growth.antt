@@ -36,24 +36,24 @@ use Rattle.agreement.proofs.Agreement.{orders-in}
 module _ (C : Setting) {n : ℕ} {vs : List Vertex} (A : Accepted n vs) (s : ℕ) (l : s < C .slots .upTo (highest vs)) where
   commit-decides : (p : ℕ) → p < length vs → inSlot (C .slots) s (at vs p) ≡ true → directCommit n vs (at vs p) ≡ true → Decided (decisionAt (decisions C n vs) s)
   unfolding decide
-  commit-decides p lp i c z = go (choose-is A (C .slots) s (directCommit n vs) _) (sym (decisions-at C n vs s l) ∙ z)
+  commit-decides p lp i c z = never-open (choose-is A (C .slots) s (directCommit n vs) _) (sym (decisions-at C n vs s l) ∙ z)
     where
-      go : {d e : Decision ℕ} → Chosen (C .slots) vs s (directCommit n vs) d e → e ≡ undecided → ⊥
-      go (chosen q lq iq cq b e) u = committed-decided e u
-      go (nobody none e) u = not-both c (none p lp i)
+      never-open : {d e : Decision ℕ} → Chosen (C .slots) vs s (directCommit n vs) d e → e ≡ undecided → ⊥
+      never-open (chosen q lq iq cq b e) u = committed-decided e u
+      never-open (nobody none e) u = not-both c (none p lp i)
 
   skip-decides : C .skip n vs (C .slots .roundOf s) (C .slots .leaderOf s) ≡ true → Decided (decisionAt (decisions C n vs) s)
   unfolding decide
-  skip-decides k z = go (choose-is A (C .slots) s (directCommit n vs) other) (rw k) (sym (decisions-at C n vs s l) ∙ z)
+  skip-decides k z = never-open (choose-is A (C .slots) s (directCommit n vs) other) (rw k) (sym (decisions-at C n vs s l) ∙ z)
     where
       other : Decision ℕ
       other =
           cond (C .skip n vs (C .slots .roundOf s) (C .slots .leaderOf s)) skipped
           (indirect C n vs s (anchor (drop (C .slots .start s - suc s) (drop (suc s) (decisions C n vs)))))
 
-      go : {d e : Decision ℕ} → Chosen (C .slots) vs s (directCommit n vs) d e → d ≡ skipped → e ≡ undecided → ⊥
-      go (chosen q lq iq cq b e) w u = committed-decided e u
-      go (nobody none e) w u = skipped-decided (e ∙ w) u
+      never-open : {d e : Decision ℕ} → Chosen (C .slots) vs s (directCommit n vs) d e → d ≡ skipped → e ≡ undecided → ⊥
+      never-open (chosen q lq iq cq b e) w u = committed-decided e u
+      never-open (nobody none e) w u = skipped-decided (e ∙ w) u
 
 -- ---- the larger table
 

@@ -105,10 +105,10 @@ module _ {n : ℕ} {us ws : List Vertex} (T : Together n us ws) where
   place x (inr h) = (length us + find ws x, omega (arith, length-append us ws), ap nameOf (getD-append-add us ws (find ws x) noVertex) ∙ find-name ws x h)
 
   single : (x y : Name) → In x → In y → x .round ≡ y .round → x .author ≡ y .author → equivocates (us ++ ws) (x .author) ≡ false → x ≡ y
-  single x y ix iy er ea e = go (place x ix) (place y iy)
+  single x y ix iy er ea e = at-places (place x ix) (place y iy)
     where
-      go : (p : ℕ) × (p < length (us ++ ws)) × (nameOf (at (us ++ ws) p) ≡ x) → (q : ℕ) × (q < length (us ++ ws)) × (nameOf (at (us ++ ws) q) ≡ y) → x ≡ y
-      go (p, lp, ep) (q, lq, eq) =
+      at-places : (p : ℕ) × (p < length (us ++ ws)) × (nameOf (at (us ++ ws) p) ≡ x) → (q : ℕ) × (q < length (us ++ ws)) × (nameOf (at (us ++ ws) q) ≡ y) → x ≡ y
+      at-places (p, lp, ep) (q, lq, eq) =
           let level : at (us ++ ws) q .round ≡ at (us ++ ws) p .round = ap (λ z. z .round) eq ∙ sym er ∙ sym (ap (λ z. z .round) ep) in
           let mark : at (us ++ ws) q .mark ≡ at (us ++ ws) p .mark = one-mark (us ++ ws) (x .author) p q e lp lq (ap (λ z. z .author) ep) (ap (λ z. z .author) eq ∙ sym ea) level in
           name-path x y er ea (sym (ap (λ z. z .mark) ep) ∙ sym mark ∙ ap (λ z. z .mark) eq)

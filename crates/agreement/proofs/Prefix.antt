@@ -66,7 +66,7 @@ module _ {n : ℕ} {step : StepRule} {W : World n step} where
   new-carried : {us ws : List Vertex} (T : TableIn W us) (U : TableIn W ws) (a b : ℕ) → a < length us → b < length ws → nameOf (at us a) ≡ nameOf (at ws b)
       → (d e : List ℕ) → Within us d → namesAt us d ≡ namesAt ws e → (z : Name) → List·Memᴰ z (namesAt us (notYet d (history step us a))) → List·Memᴰ z (namesAt ws (notYet e (history step ws b)))
   unfolding notYet
-  new-carried {us} {ws} T U a b la lb lead d e wd same z m = go (Memᴰ·of-map _ (notYet d (history step us a)) m)
+  new-carried {us} {ws} T U a b la lb lead d e wd same z m = carried (Memᴰ·of-map _ (notYet d (history step us a)) m)
     where
       H : List Bool
       H = history step ws b
@@ -88,9 +88,9 @@ module _ {n : ℕ} {step : StepRule} {W : World n step} where
           let unwritten : not (member q e) ≡ true = is-not (failed _ (λ t. not-both (member-complete p d (back p q lp (ep ∙ sym eq) (member-sound q e t))) out)) in
           Memᴰ·cast (sym eq) (Memᴰ·map _ (filter-complete new (length H) q (omega (arith, history-length (U .accepted) (U .down) (follows U) b lb)) (and-true _ _ inside unwritten)))
 
-      go : (p : ℕ) × List·Memᴰ p (filterTo (λ p. getD (history step us a) p false and not (member p d)) (length (history step us a))) × (nameOf (at us p) ≡ z)
+      carried : (p : ℕ) × List·Memᴰ p (filterTo (λ p. getD (history step us a) p false and not (member p d)) (length (history step us a))) × (nameOf (at us p) ≡ z)
           → List·Memᴰ z (namesAt ws (filterTo new (length H)))
-      go (p, mp, ep) =
+      carried (p, mp, ep) =
           let f = filter-sound _ (length (history step us a)) p mp in
           let lp : p ≤ a = omega (arith, f .0, history-length (T .accepted) (T .down) (follows T) a la) in
           let r = history-sound (T .accepted) (T .down) (follows T) a p la lp (and-left _ _ (f .1)) in

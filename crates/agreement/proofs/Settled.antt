@@ -45,11 +45,11 @@ module _ (C : Setting) (later : (s : ℕ) → s < C .slots .start s) {n : ℕ} {
 
   anchor-decides : (s a : ℕ) → Decided (throughAnchor C n vs s a)
   unfolding throughAnchor
-  anchor-decides s a = go (choose-is A (C .slots) s (certifiedIn n vs (history (C .step) vs a)) skipped)
+  anchor-decides s a = either-way (choose-is A (C .slots) s (certifiedIn n vs (history (C .step) vs a)) skipped)
     where
-      go : {ok : Vertex → Bool} {d : Decision ℕ} → Chosen (C .slots) vs s ok skipped d → Decided d
-      go (chosen p l i c b e) = committed-decided e
-      go (nobody none e) = skipped-decided e
+      either-way : {ok : Vertex → Bool} {d : Decision ℕ} → Chosen (C .slots) vs s ok skipped d → Decided d
+      either-way (chosen p l i c b e) = committed-decided e
+      either-way (nobody none e) = skipped-decided e
 
   -- All slots from `low` to `top` are decided, `top` is committed, and every slot below `low` starts its search at or before `top`.
   pub all-below : (top a : ℕ) → dec top ≡ committed a → (low : ℕ) → ((u : ℕ) → low ≤ u → u ≤ top → Decided (dec u)) → ((s : ℕ) → s < low → C .slots .start s ≤ top)
@@ -67,9 +67,9 @@ three-decided {n} {vs} A s a h0 h1 h2 = all-below (boxSetting n) (one-leader n .
     At u = Decided (decisionAt (decisions (boxSetting n) n vs) u)
 
     run : (u : ℕ) → s ≤ u → u ≤ s + 2 → At u
-    run u l l′ = go (compare u (s + 1))
+    run u l l′ = one-of-three (compare u (s + 1))
       where
-        go : (u < s + 1) ⊎ ((u ≡ s + 1) ⊎ (s + 1 < u)) → At u
-        go (inl h) = let e : s ≡ u = omega arith in subst At e h0
-        go (inr (inl e)) = subst At (omega arith) h1
-        go (inr (inr h)) = let e : s + 2 ≡ u = omega arith in subst At e (committed-decided h2)
+        one-of-three : (u < s + 1) ⊎ ((u ≡ s + 1) ⊎ (s + 1 < u)) → At u
+        one-of-three (inl h) = let e : s ≡ u = omega arith in subst At e h0
+        one-of-three (inr (inl e)) = subst At (omega arith) h1
+        one-of-three (inr (inr h)) = let e : s + 2 ≡ u = omega arith in subst At e (committed-decided h2)

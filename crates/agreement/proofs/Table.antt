@@ -117,20 +117,20 @@ module _ {n : ℕ} {step : StepRule} {W : World n step} {vs : List Vertex} (T : 
 
   certified-is : (a p : ℕ) → a < length vs → certifiedIn n vs (history step vs a) (at vs p) ≡ true → CertifiedIn W (name a) (name p)
   unfolding certifiedIn
-  certified-is a p l e = go (any-witness _ (length (history step vs a)) e)
+  certified-is a p l e = certified-by (any-witness _ (length (history step vs a)) e)
     where
-      go : (q : ℕ) × (q < length (history step vs a)) × (getD (history step vs a) q false and certifies n vs (at vs q) (at vs p) ≡ true)
+      certified-by : (q : ℕ) × (q < length (history step vs a)) × (getD (history step vs a) q false and certifies n vs (at vs q) (at vs p) ≡ true)
           → CertifiedIn W (name a) (name p)
-      go (q, lq, t) =
+      certified-by (q, lq, t) =
           let la : q ≤ a = omega (arith, history-length A (T .down) follows a l) in
           record { who = name q; reached = history-sound A (T .down) follows a q l la (and-left _ _ t); certifies = certificate-is q p (omega arith) (and-right _ _ t) }
 
   is-certified : (a p : ℕ) → a < length vs → CertifiedIn W (name a) (name p) → certifiedIn n vs (history step vs a) (at vs p) ≡ true
   unfolding certifiedIn
-  is-certified a p l c = go (reached-at A (T .down) follows a l (c .who) (c .reached))
+  is-certified a p l c = found-at (reached-at A (T .down) follows a l (c .who) (c .reached))
     where
-      go : (q : ℕ) × (q ≤ a) × (name q ≡ c .who) → anyTo (λ q. getD (history step vs a) q false and certifies n vs (at vs q) (at vs p)) (length (history step vs a)) ≡ true
-      go (q, la, e) =
+      found-at : (q : ℕ) × (q ≤ a) × (name q ≡ c .who) → anyTo (λ q. getD (history step vs a) q false and certifies n vs (at vs q) (at vs p)) (length (history step vs a)) ≡ true
+      found-at (q, la, e) =
           let reached = subst (Reaches _ (name a)) (sym e) (c .reached) in
           let certificate = subst (λ x. Certificate W x (name p)) (sym e) (c .certifies) in
           any-intro _ (length (history step vs a)) q (omega (arith, history-length A (T .down) follows a l))
@@ -163,11 +163,11 @@ module _ {n : ℕ} {step : StepRule} {W : World n step} {vs : List Vertex} (T : 
 
     picks : (s a : ℕ) → a < length vs → Picked W S (Holds vs) s (name a) (tell name (throughAnchor (setting S skip step) n vs s a))
     unfolding throughAnchor tell
-    picks s a l = go (choose-is A S s (certifiedIn n vs (history step vs a)) skipped)
+    picks s a l = pick-is (choose-is A S s (certifiedIn n vs (history step vs a)) skipped)
       where
-        go : {d : Decision ℕ} → Chosen S vs s (certifiedIn n vs (history step vs a)) skipped d → Picked W S (Holds vs) s (name a) (tell name d)
-        go (chosen p lp i c b e) = world.chose (name p) (slot-name s p i) (certified-is a p l c) (ap (tell name) e)
-        go (nobody none e) = world.nobody none-of (ap (tell name) e)
+        pick-is : {d : Decision ℕ} → Chosen S vs s (certifiedIn n vs (history step vs a)) skipped d → Picked W S (Holds vs) s (name a) (tell name d)
+        pick-is (chosen p lp i c b e) = world.chose (name p) (slot-name s p i) (certified-is a p l c) (ap (tell name) e)
+        pick-is (nobody none e) = world.nobody none-of (ap (tell name) e)
           where
             none-of : (b : Name) → OfSlot S s b → Holds vs b → CertifiedIn W (name a) b → ⊥
             none-of b sb h c =
@@ -186,10 +186,10 @@ module _ {n : ℕ} {step : StepRule} {W : World n step} {vs : List Vertex} (T : 
       pick s x = tell name (throughAnchor (setting S skip step) n vs s (find vs x))
 
       pub leader-held : (t : ℕ) (x : Name) → dec t ≡ committed x → Holds vs x × OfSlot S t x
-      leader-held t x e = go (tell-committed name (decisionAt (decisions (setting S skip step) n vs) t) x e)
+      leader-held t x e = held-at (tell-committed name (decisionAt (decisions (setting S skip step) n vs) t) x e)
         where
-          go : (p : ℕ) × (decisionAt (decisions (setting S skip step) n vs) t ≡ committed p) × (name p ≡ x) → Holds vs x × OfSlot S t x
-          go (p, e′, ex) =
+          held-at : (p : ℕ) × (decisionAt (decisions (setting S skip step) n vs) t ≡ committed p) × (name p ≡ x) → Holds vs x × OfSlot S t x
+          held-at (p, e′, ex) =
               let h = leads (setting S skip step) (G .later) A t p e′ in
               let held : Holds vs (name p) = rw (find-at A p (h .0)) (h .0) in
               (subst (Holds vs) ex held, subst (OfSlot S t) ex (slot-name t p (h .1)))

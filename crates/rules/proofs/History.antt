@@ -141,7 +141,7 @@ module _ {n : ℕ} {vs : List Vertex} (A : Accepted n vs) where
 
 -- document 01's step: the vertex of the name x in the table references y
 abbrev pub ReferencesIn : List Vertex → Name → Name → Type 0
-ReferencesIn vs = StepIn references vs
+ReferencesIn vs x y = StepIn references vs x y
 
 module _ {n : ℕ} {vs : List Vertex} (A : Accepted n vs) where
   -- A vertex is in the computed history of the vertex at a exactly when it is that vertex or reached from it by references.

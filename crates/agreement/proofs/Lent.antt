@@ -53,14 +53,17 @@ leaves n t before c after S = by-answer (lentCheck (boxSetting n) first n t befo
     ds : List (Decision ℕ)
     ds = decisions (boxSetting n) n vs
 
-    by-answer : (k : Told (Unit {0})) → settleIf k (boxSetting n) n vs before .outcome ≡ gives c → settleIf k (boxSetting n) n vs before .buffers ≡ after → Leaves n t c after
+    by-answer : (k : Told (Unit {0})) → settleIf k (boxSetting n) n vs before .outcome ≡ gives c → settleIf k (boxSetting n) n vs before .buffers ≡ after
+        → Leaves n t c after
     by-answer (refused r values) e f = absurd (let z : _≡_ {A = ℕ} 0 1 = cc in omega arith)
     by-answer (gives a) e f =
         let is : countsOf n vs ds (order (boxSetting n) n vs) ≡ c = cc in
         let top : c .highest ≡ length ds = ap (λ (x : Counts). x .highest) (sym is) ∙ sym (decisions-length (boxSetting n) n vs) in
         let count : c .written ≡ length (order (boxSetting n) n vs) = ap (λ (x : Counts). x .written) (sym is) in
         record {
-          cells = λ s l. ap (λ (b : Buffers). said (getD (b .cells) s 0)) (sym f) ∙ ap said (over-at cell ds (before .cells) s (omega arith)) ∙ said-cell (decisionAt ds s);
+          cells = λ s l.
+              ap (λ (b : Buffers). said (getD (b .cells) s 0)) (sym f) ∙ ap said (over-at cell ds (before .cells) s (omega arith))
+              ∙ said-cell (decisionAt ds s);
           places = ap (λ (b : Buffers). take (c .written) (b .order)) (sym f) ∙ rw count (take-at (order (boxSetting n) n vs) _ _ refl);
         }
 
@@ -68,7 +71,8 @@ pub demand-3-in-buffers : Demand3InBuffers
 demand-3-in-buffers n t u before before′ c d after after′ P S S′ =
     in-buffers (demand-3 n t u P) (leaves n t before c after S) (leaves n u before′ d after′ S′)
   where
-    in-buffers : Agree (boxSetting n) (boxSetting n) n (vertices first t) (vertices first u) → Leaves n t c after → Leaves n u d after′ → AgreeIn t u c d after after′
+    in-buffers : Agree (boxSetting n) (boxSetting n) n (vertices first t) (vertices first u) → Leaves n t c after → Leaves n u d after′
+        → AgreeIn t u c d after after′
     in-buffers A L L′ = record {
       alike = λ s l l′ h h′. rw (L .cells s l, L′ .cells s l′) (A .alike s (rw (L .cells s l) at h) (rw (L′ .cells s l′) at h′));
       orders = rw (L .places, L′ .places) (A .orders);

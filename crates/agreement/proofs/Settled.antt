@@ -36,7 +36,8 @@ module _ (C : Setting) (later : (s : ℕ) → s < C .slots .start s) {n : ℕ} {
   }
     where
       by-position : (s : ℕ) → Because C n vs s (dec s)
-          → Why (C .slots .start) (λ s p. directCommit n vs (at vs p) ≡ true) (λ s. C .skip n vs (C .slots .roundOf s) (C .slots .leaderOf s) ≡ true) (throughAnchor C n vs) dec s
+          → Why (C .slots .start) (λ s p. directCommit n vs (at vs p) ≡ true) (λ s. C .skip n vs (C .slots .roundOf s) (C .slots .leaderOf s) ≡ true)
+          (throughAnchor C n vs) dec s
       by-position s (direct p l i c m e) = by-commit p c e
       by-position s (skips none k e) = by-skip k e
       by-position s (through none t a l f g e) = by-anchor t a l f g e
@@ -52,7 +53,8 @@ module _ (C : Setting) (later : (s : ℕ) → s < C .slots .start s) {n : ℕ} {
       either-way (nobody none e) = skipped-decided e
 
   -- All slots from `low` to `top` are decided, `top` is committed, and every slot below `low` starts its search at or before `top`.
-  pub all-below : (top a : ℕ) → dec top ≡ committed a → (low : ℕ) → ((u : ℕ) → low ≤ u → u ≤ top → Decided (dec u)) → ((s : ℕ) → s < low → C .slots .start s ≤ top)
+  pub all-below : (top a : ℕ) → dec top ≡ committed a → (low : ℕ) → ((u : ℕ) → low ≤ u → u ≤ top → Decided (dec u))
+      → ((s : ℕ) → s < low → C .slots .start s ≤ top)
       → (s : ℕ) → s ≤ top → Decided (dec s)
   unfolding box
   all-below = settled-below later box (λ s t a e. anchor-decides s a)

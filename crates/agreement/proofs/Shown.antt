@@ -99,7 +99,8 @@ differ e = eqb-false _ _ lengths (ap length e)
 -- ---- the pairs that contradict each other
 
 -- round 1 is committed by the one and skipped by the other
-contradict : (t u : List ℕ) (b : Name) → told (boxSetting 4) 4 (vertices first t) 0 ≡ committed b → told (boxSetting 4) 4 (vertices first u) 0 ≡ skipped → Contradict t u
+contradict : (t u : List ℕ) (b : Name) → told (boxSetting 4) 4 (vertices first t) 0 ≡ committed b → told (boxSetting 4) 4 (vertices first u) 0 ≡ skipped
+    → Contradict t u
 unfolding tell
 contradict t u b e k A = skipped-apart e (A .alike 0 (λ z. committed-decided e (ap (tell _) z)) (λ z. skipped-decided k (ap (tell _) z)) ∙ k)
 

@@ -100,7 +100,8 @@ module _ {n : ℕ} {step : StepRule} {W : World n step} {vs : List Vertex} (T : 
 
   -- A vertex that is blank for b's round does not reference b.
   pub blank-law : SkipLaw directSkip
-  blank-law b e = many-map n (quorum n) (Has vs (λ w. blank w (b .round) (b .author))) (Without W b) (λ i li h. without i h) (skip-is n vs (b .round) (b .author) e)
+  blank-law b e =
+      many-map n (quorum n) (Has vs (λ w. blank w (b .round) (b .author))) (Without W b) (λ i li h. without i h) (skip-is n vs (b .round) (b .author) e)
     where
       without : (i : ℕ) → Has vs (λ w. blank w (b .round) (b .author)) i → Without W b i
       without i (p, l, ei, t) =
@@ -123,13 +124,15 @@ module _ {n : ℕ} {step : StepRule} {W : World n step} {vs : List Vertex} (T : 
           → CertifiedIn W (name a) (name p)
       certified-by (q, lq, t) =
           let la : q ≤ a = omega (arith, history-length A (T .down) follows a l) in
-          record { who = name q; reached = history-sound A (T .down) follows a q l la (and-left _ _ t); certifies = certificate-is q p (omega arith) (and-right _ _ t) }
+          let reached = history-sound A (T .down) follows a q l la (and-left _ _ t) in
+          record { who = name q; reached = reached; certifies = certificate-is q p (omega arith) (and-right _ _ t) }
 
   is-certified : (a p : ℕ) → a < length vs → CertifiedIn W (name a) (name p) → certifiedIn n vs (history step vs a) (at vs p) ≡ true
   unfolding certifiedIn
   is-certified a p l c = found-at (reached-at A (T .down) follows a l (c .who) (c .reached))
     where
-      found-at : (q : ℕ) × (q ≤ a) × (name q ≡ c .who) → anyTo (λ q. getD (history step vs a) q false and certifies n vs (at vs q) (at vs p)) (length (history step vs a)) ≡ true
+      found-at : (q : ℕ) × (q ≤ a) × (name q ≡ c .who)
+          → anyTo (λ q. getD (history step vs a) q false and certifies n vs (at vs q) (at vs p)) (length (history step vs a)) ≡ true
       found-at (q, la, e) =
           let reached = subst (Reaches _ (name a)) (sym e) (c .reached) in
           let certificate = subst (λ x. Certificate W x (name p)) (sym e) (c .certifies) in
@@ -152,7 +155,8 @@ module _ {n : ℕ} {step : StepRule} {W : World n step} {vs : List Vertex} (T : 
     pub commits : (s : ℕ) (b : Name) → Commit s b → OfSlot S s b × Many n (quorum n) (CertifiedBy W b)
     commits s b c = subst (λ x. OfSlot S s x × Many n (quorum n) (CertifiedBy W x)) (find-name vs b (c .held)) (
       slot-name s p (c .slotted),
-      many-map n (quorum n) (Has vs (λ w. certifies n vs w (at vs p))) (CertifiedBy W (name p)) (λ i li h. certifier i h) (commit-is n vs (at vs p) (c .passes)),
+      many-map n (quorum n) (Has vs (λ w. certifies n vs w (at vs p))) (CertifiedBy W (name p)) (λ i li h. certifier i h)
+          (commit-is n vs (at vs p) (c .passes)),
     )
       where
         p : ℕ
@@ -205,7 +209,8 @@ module _ {n : ℕ} {step : StepRule} {W : World n step} {vs : List Vertex} (T : 
           told-so (skips none b e) = by-skip b (ap (tell name) e)
           told-so (through none t a l f g e) =
               by-anchor t (name a) l (λ u h h′. ap (tell name) (f u h h′)) (ap (tell name) g)
-              (ap (tell name) e ∙ ap (λ p. tell name (throughAnchor (setting S skip step) n vs s p)) (sym (find-at A a (leads (setting S skip step) (G .later) A t a g .0))))
+              (ap (tell name) e
+              ∙ ap (λ p. tell name (throughAnchor (setting S skip step) n vs s p)) (sym (find-at A a (leads (setting S skip step) (G .later) A t a g .0))))
           told-so (blocked none t l f g e) = by-nothing t l (λ u h h′. ap (tell name) (f u h h′)) (ap (tell name) g) (ap (tell name) e)
           told-so (past o e) =
               let k = past-stops (setting S skip step) (G .later) A s o in

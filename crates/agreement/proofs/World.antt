@@ -126,10 +126,12 @@ module _ {n : ℕ} {step : StepRule} (W : World n step) where
           let up : w .round ≡ b .round + 1 + 1 = omega (arith, c .two-up) in
           let up′ : w′ .round ≡ b .round + 1 + 1 = omega (arith, c′ .two-up) in
           let level : pred (W .vertex w .round) ≡ pred (W .vertex w′ .round) = entry-round w _ (c .is-in) up ∙ sym (entry-round w′ _ (c′ .is-in) up′) in
-          let one : x ≡ x′ =
-          W .single x x′ (W .entry-in w (m .who) (c .is-in) (m .low) (m .left .nonzero)) (W .entry-in w′ (m .who) (c′ .is-in) (m .low) (m .right .nonzero)) level refl (m .honest) in
+          let here = W .entry-in w (m .who) (c .is-in) (m .low) (m .left .nonzero) in
+          let here′ = W .entry-in w′ (m .who) (c′ .is-in) (m .low) (m .right .nonzero) in
+          let one : x ≡ x′ = W .single x x′ here here′ level refl (m .honest) in
           let mark : b .mark ≡ b′ .mark =
-          sym (references-is _ b (m .left .supports) .names) ∙ ap (λ y. entry (W .vertex y) (b .author)) one ∙ ap (entry (W .vertex x′)) ea ∙ references-is _ b′ (m .right .supports) .names in
+          sym (references-is _ b (m .left .supports) .names) ∙ ap (λ y. entry (W .vertex y) (b .author)) one
+          ∙ ap (entry (W .vertex x′)) ea ∙ references-is _ b′ (m .right .supports) .names in
           name-path b b′ er ea mark
 
   -- Certificate against direct skip: an author in both quorums would both reference b and not.
@@ -141,8 +143,8 @@ module _ {n : ℕ} {step : StepRule} (W : World n step) where
           let x = entryName (W .vertex w) (m .who) in
           let k = m .right in
           let up : w .round ≡ k .who .round + 1 = omega (arith, c .two-up, k .one-up) in
-          let one : x ≡ k .who =
-          W .single x (k .who) (W .entry-in w (m .who) (c .is-in) (m .low) (m .left .nonzero)) (k .is-in) (entry-round w _ (c .is-in) up) (sym (k .by)) (m .honest) in
+          let here = W .entry-in w (m .who) (c .is-in) (m .low) (m .left .nonzero) in
+          let one : x ≡ k .who = W .single x (k .who) here (k .is-in) (entry-round w _ (c .is-in) up) (sym (k .by)) (m .honest) in
           not-both (m .left .supports) (ap (λ y. references (W .vertex y) b) one ∙ k .does-not)
 
   -- Author i has a vertex of round r in the history of a.
@@ -157,7 +159,8 @@ module _ {n : ℕ} {step : StepRule} (W : World n step) where
   pub lower-round : (k r : ℕ) (a v : Name) → 0 < r → Reached a v → W .In v → v .round ≡ r + k → (i : ℕ) × ReachedBy a r i
   lower-round zero r a v pos h iv e = (v .author, record { who = v; reached = h; is-in = iv; at-round = omega arith; by = refl })
   lower-round (suc k) r a v pos h iv e =
-      one-lower (λ x h ix e. lower-round k r a x pos h ix e) (some-of n (quorum n) (λ i. entry (W .vertex v) i ≢ 0) (omega arith) (W .enough v iv (omega arith)))
+      one-lower (λ x h ix e. lower-round k r a x pos h ix e)
+      (some-of n (quorum n) (λ i. entry (W .vertex v) i ≢ 0) (omega arith) (W .enough v iv (omega arith)))
     where
       one-lower : ((x : Name) → Reached a x → W .In x → x .round ≡ r + k → (i : ℕ) × ReachedBy a r i) → (i : ℕ) × (i < n) × (entry (W .vertex v) i ≢ 0)
           → (i : ℕ) × ReachedBy a r i
@@ -184,14 +187,17 @@ module _ {n : ℕ} {step : StepRule} (W : World n step) where
   -- history. The authors that its history has in the round of the certificates and those that certify share one with a single vertex there.
   pub certified-later : (a b : Name) → W .In a → b .round + 3 ≤ a .round → Many n (quorum n) (CertifiedBy b) → CertifiedIn a b
   certified-later a b ia h many =
-      shared-certifier (meet n (faults n) (ReachedBy a (b .round + 2)) (CertifiedBy b) (W .faulty) (W .count) (W .few) (quorum-below a (b .round + 2) ia (omega arith) (omega arith)) many)
+      shared-certifier
+      (meet n (faults n) (ReachedBy a (b .round + 2)) (CertifiedBy b) (W .faulty) (W .count) (W .few)
+      (quorum-below a (b .round + 2) ia (omega arith) (omega arith)) many)
     where
       shared-certifier : Shared n (ReachedBy a (b .round + 2)) (CertifiedBy b) (W .faulty) → CertifiedIn a b
       shared-certifier m =
           let x = m .left in
           let k = m .right in
+          let level = x .at-round ∙ sym (k .certifies .two-up) in
           let one : x .who ≡ k .who =
-          W .single (x .who) (k .who) (x .is-in) (k .certifies .is-in) (x .at-round ∙ sym (k .certifies .two-up)) (x .by ∙ sym (k .by)) (ap (W .faulty) (x .by) ∙ m .honest) in
+          W .single (x .who) (k .who) (x .is-in) (k .certifies .is-in) level (x .by ∙ sym (k .by)) (ap (W .faulty) (x .by) ∙ m .honest) in
           record { who = k .who; reached = subst (Reached a) one (x .reached); certifies = k .certifies }
 
   -- there is a certificate for b

@@ -70,7 +70,7 @@ pub record Base : Type 2 where
   -- demand 2
   pub settles : (n : ℕ) (t : List ℕ) (before : Buffers) (x : Settlement) (after : Buffers) → SettlesTo n t before x after
       → check first n t ≡ Passed → tooShort (boxSetting n) (vertices first t) before ≡ false → Settles n t before x after
-  -- with nothing missing and nothing twice; and what a history and the highest round are
+  -- with nothing missing and nothing twice; and what a history, the highest and the first undecided round are
   pub orders : Demand2Order
   -- demand 3: of the rules, and of what two calls leave in their buffers
   pub boxes-agree : Demand3

@@ -1,9 +1,9 @@
 -- The written order has nothing missing and nothing twice, and no other order has what is asked of it: of any setting whose step goes to an
 -- earlier record and whose indirect search starts after the slot.
 -- Assumes nothing.
-use Prim.Native.Nat.{ℕ, suc, _+_, _≤_, _<_}
-use mathlib.Core.Path.{_≡_, sym, ap, _∙_, subst}
-use mathlib.Core.Logic.{_⊎_, inl, inr, ⊎-elim}
+use Prim.Native.Nat.{ℕ, zero, suc, _+_, _≤_, _<_}
+use mathlib.Core.Path.{_≡_, refl, sym, ap, _∙_, subst}
+use mathlib.Core.Logic.{_⊎_, inl, inr, ⊎-elim, _↔_}
 use mathlib.Core.Bool.{Bool, true, false, not}
 use mathlib.Core.List.{List, [], _∷_, _++_, List·Memᴰ, List·Memᴰ·not-nil, List·Memᴰ·append-cases, Memᴰ·append-left, Memᴰ·append-right, Memᴰ·cast}
 use native.Mathlib.Omega.{arith}
@@ -20,14 +20,14 @@ use Rattle.rules.specs.Decision.{Decision, undecided, skipped, committed
 use Rattle.rules.specs.Support.{references}
 use Rattle.rules.specs.History.{StepRule, history}
 use Rattle.rules.specs.Decide.{Setting, boxSetting, decisions, decisionAt}
-use Rattle.rules.specs.Order.{notYet, writeFrom, order}
-use Rattle.rules.specs.Written.{InHistory, WrittenLeader, InShare, Written, OrderHas, Demand2Order}
+use Rattle.rules.specs.Order.{notYet, writeFrom, order, firstUndecided}
+use Rattle.rules.specs.Written.{InHistory, DecidedUpTo, WrittenLeader, InShare, Written, OrderHas, Demand2Order}
 use Rattle.rules.proofs.Accepted.{Accepted, accepted, position-unique}
 use Rattle.rules.proofs.Support.{references-earlier}
 use Rattle.rules.proofs.History.{Downward, follows, reached-at, history-length, history-sound, history-complete, history-is}
 use Rattle.rules.proofs.Decisions.{skipped-apart, committed-decided, skipped-decided, committed-same}
 use Rattle.rules.proofs.Decide.{leads}
-use Rattle.rules.proofs.Highest.{one-later, highest-most}
+use Rattle.rules.proofs.Highest.{one-later, highest-most, first-undecided-low}
 use Rattle.rules.proofs.Places.{place-in, in-place, Placed, Ordered, ordered-append, filter-ordered, ordered-same}
 
 -- ---- shares
@@ -267,12 +267,37 @@ order-written C later {n} {vs} A down =
     let held : (s a : ℕ) → decisionAt ds s ≡ committed a → a < length vs = λ s a e. leads C later A s a e .0 in
     written-from (C .step) vs ds A down held ds 0 [] (λ u. ap (decisionAt ds) (zero-add u)) (none-yet (C .step) vs ds A down held)
 
+-- ---- the first undecided one
+
+-- where the first of the list is decided, it is to be looked for in the rest
+decided-first : (r : ℕ) (d : Decision ℕ) (ds : List (Decision ℕ)) → Decided d → ((s : ℕ) → (suc r + s < firstUndecided (suc r) ds) ↔ DecidedUpTo ds s)
+    → (s : ℕ) → (r + s < firstUndecided (suc r) ds) ↔ DecidedUpTo (d ∷ ds) s
+decided-first r d ds h rest zero = (λ _. only, λ _. omega (arith, first-undecided-low (suc r) ds))
+  where
+    only : DecidedUpTo (d ∷ ds) 0
+    only zero l = h
+    only (suc u) l = absurd (not-suc-le-zero l)
+decided-first r d ds h rest (suc s) =
+    (λ k. more (rest s .0 (omega arith)), λ f. let k = rest s .1 (λ u l. f (suc u) (omega arith)) in omega arith)
+  where
+    more : DecidedUpTo ds s → DecidedUpTo (d ∷ ds) (suc s)
+    more f zero l = h
+    more f (suc u) l = f u (le-of-suc-le-suc l)
+
+pub first-undecided-is : (r : ℕ) (ds : List (Decision ℕ)) (s : ℕ) → (r + s < firstUndecided r ds) ↔ DecidedUpTo ds s
+unfolding firstUndecided
+first-undecided-is r [] s = (λ k. absurd (omega arith), λ f. absurd (f 0 (omega arith) refl))
+first-undecided-is r (undecided ∷ ds) s = (λ k. absurd (omega arith), λ f. absurd (f 0 (omega arith) refl))
+first-undecided-is r (skipped ∷ ds) s = decided-first r skipped ds (skipped-decided refl) (λ u. first-undecided-is (suc r) ds u) s
+first-undecided-is r (committed a ∷ ds) s = decided-first r (committed a) ds (committed-decided refl) (λ u. first-undecided-is (suc r) ds u) s
+
 -- ---- document 01
 
 pub order-has : {n : ℕ} {vs : List Vertex} → Accepted n vs → OrderHas n vs
 order-has {n} {vs} A = record {
   written = all;
   no-other = λ o w. written-one _ _ _ o _ w all;
+  first-undecided = first-undecided-is 1 (decisions (boxSetting n) n vs);
   histories = history-is A;
   highest-most = highest-most A;
 }

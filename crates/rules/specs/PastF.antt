@@ -1,5 +1,5 @@
--- More than f equivocators: "Direct skip, tried only if no commit" and "If several B qualify, the lowest mark" tell answers apart there, and only
--- there. One table for each, n = 4, beside P1 to P14; each answer is whole, as theirs are.
+-- More than f equivocators: there "Direct skip, tried only if no commit" and "If several B qualify, the lowest mark" make a difference, as they
+-- make none in P1 to P14. One table for each, n = 4; each answer is whole, as theirs are.
 -- Assumes nothing.
 use mathlib.Core.List.{List, [], _∷_, _++_}
 use mathlib.Core.Path.{_≡_}

@@ -1,7 +1,7 @@
 -- Document 01, "The written order", as demand 2 has it: with nothing missing and nothing twice. It says what an order has to have, by what a
 -- history means and not by how it is computed, and it leaves one order only.
 -- Assumes nothing.
-use Prim.Native.Nat.{ℕ, _≤_, _<_}
+use Prim.Native.Nat.{ℕ, _+_, _≤_, _<_}
 use mathlib.Core.Path.{_≡_}
 use mathlib.Core.Logic.{_↔_}
 use mathlib.Core.Bool.{true, false}
@@ -16,7 +16,7 @@ use Rattle.rules.specs.Decision.{Decision, committed, Decided}
 use Rattle.rules.specs.Support.{references}
 use Rattle.rules.specs.History.{Reaches, StepRule, history}
 use Rattle.rules.specs.Decide.{boxSetting, highest, decisions, decisionAt}
-use Rattle.rules.specs.Order.{order}
+use Rattle.rules.specs.Order.{order, firstUndecided}
 
 -- One step of a history in a table: from the vertex of the name x to the name y.
 abbrev pub StepIn : StepRule → List Vertex → Name → Name → Type 0
@@ -26,6 +26,10 @@ StepIn step vs x y = step (vertexOf vs x) y ≡ true
 pub record InHistory (step : StepRule) (vs : List Vertex) (a p : ℕ) : Type 0 where
   pub stands : p < length vs
   pub reached : Reaches (StepIn step vs) (nameOf (at vs a)) (nameOf (at vs p))
+
+-- Slot s and every slot before it are decided.
+abbrev pub DecidedUpTo : List (Decision ℕ) → ℕ → Type 0
+DecidedUpTo ds s = (u : ℕ) → u ≤ s → Decided (decisionAt ds u)
 
 -- The vertex at a is a leader whose history is written: slot s is committed with it, and no slot before s is undecided.
 pub record WrittenLeader (ds : List (Decision ℕ)) (s a : ℕ) : Type 0 where
@@ -58,6 +62,8 @@ pub record OrderHas (n : ℕ) (vs : List Vertex) : Type 0 where
   pub written : Written references vs (decisions (boxSetting n) n vs) (order (boxSetting n) n vs)
   -- there is no other with nothing missing, nothing twice and that order
   pub no-other : (o : List ℕ) → Written references vs (decisions (boxSetting n) n vs) o → o ≡ order (boxSetting n) n vs
+  -- the first undecided round that is told: round s + 1 comes before it exactly when that round and all before it are decided
+  pub first-undecided : (s : ℕ) → (1 + s < firstUndecided 1 (decisions (boxSetting n) n vs)) ↔ DecidedUpTo (decisions (boxSetting n) n vs) s
   -- what is computed as the history of the vertex at a is that vertex and everything reached from it by references
   pub histories : (a q : ℕ) → a < length vs → q ≤ a
       → (getD (history references vs a) q false ≡ true) ↔ Reaches (StepIn references vs) (nameOf (at vs a)) (nameOf (at vs q))

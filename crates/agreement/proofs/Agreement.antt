@@ -39,8 +39,8 @@ pub record Excludes (skip : SkipRule) : Type 1 where
 
 -- ---- two tables in one world
 
-module _ {n : ℕ} {step : StepRule} {W : World n step} {us ws : List Vertex} (T : TableIn W us) (U : TableIn W ws) (S : Slots) (G : Geometry S) (skip skip′ : SkipRule)
-    (law : SkipLaw T skip) (law′ : SkipLaw U skip′) where
+module _ {n : ℕ} {step : StepRule} {W : World n step} {us ws : List Vertex} (T : TableIn W us) (U : TableIn W ws) (S : Slots) (G : Geometry S)
+    (skip skip′ : SkipRule) (law : SkipLaw T skip) (law′ : SkipLaw U skip′) where
   abbrev C : Setting
   C = setting S skip step
 
@@ -51,7 +51,8 @@ module _ {n : ℕ} {step : StepRule} {W : World n step} {us ws : List Vertex} (T
   pub orders-in : Begins (written C n us) (written D n ws) ⊎ (Begins (written D n ws) (written C n us) × Ahead T U (decisions C n us) (decisions D n ws))
   unfolding order
   orders-in =
-      orders T U (decisions C n us) (decisions D n ws) [] [] (λ s p e. leads C (G .later) (T .accepted) s p e .0) (λ s p e. leads D (G .later) (U .accepted) s p e .0)
+      orders T U (decisions C n us) (decisions D n ws) [] [] (λ s p e. leads C (G .later) (T .accepted) s p e .0)
+      (λ s p e. leads D (G .later) (U .accepted) s p e .0)
       (alike-in T U S G skip skip′ law law′) (λ p m. absurd (List·Memᴰ·not-nil m)) (λ p m. absurd (List·Memᴰ·not-nil m)) refl
 
   pub agree-in : Agree C D n us ws
@@ -69,7 +70,8 @@ together {E} {n} {t} {u} P = record { one = accepted E n t (P .one-passes); othe
         let kq : q < records E u = rw (← vertices-length E u) lq in
         vertices-at E t p kp ∙ ap (decode E) (P .same-record p q kp kq e) ∙ sym (vertices-at E u q kq)
 
-pub agreement : (S : Slots) (step : StepRule) (skip skip′ : SkipRule) → Geometry S → StepLaw step → Excludes skip → Excludes skip′ → (E : Edition) (n : ℕ) (t u : List ℕ)
+pub agreement : (S : Slots) (step : StepRule) (skip skip′ : SkipRule) → Geometry S → StepLaw step → Excludes skip → Excludes skip′
+    → (E : Edition) (n : ℕ) (t u : List ℕ)
     → Premises E n t u → Agree (setting S skip step) (setting S skip′ step) n (vertices E t) (vertices E u)
 agreement S step skip skip′ G L law law′ E n t u P =
     let J = together P in

@@ -16,7 +16,8 @@ abbrev pub SkippedTo : {N : Type 0} → (ℕ → ℕ) → (ℕ → Decision N) �
 SkippedTo start dec s t = (u : ℕ) → start s ≤ u → u < t → dec u ≡ skipped
 
 -- Why slot s is decided as it is: the direct rules, or where its search stopped, at an anchor or at a slot that is undecided.
-pub data Why {N : Type 0} (start : ℕ → ℕ) (Commits : ℕ → N → Type 0) (Skips : ℕ → Type 0) (pick : ℕ → N → Decision N) (dec : ℕ → Decision N) (s : ℕ) : Type 0 where
+pub data Why {N : Type 0} (start : ℕ → ℕ) (Commits : ℕ → N → Type 0) (Skips : ℕ → Type 0) (pick : ℕ → N → Decision N) (dec : ℕ → Decision N)
+    (s : ℕ) : Type 0 where
   by-commit : (b : N) → Commits s b → dec s ≡ committed b → Why start Commits Skips pick dec s
   by-skip : Skips s → dec s ≡ skipped → Why start Commits Skips pick dec s
   by-anchor : (t : ℕ) (a : N) → start s ≤ t → SkippedTo start dec s t → dec t ≡ committed a → dec s ≡ pick s a → Why start Commits Skips pick dec s
@@ -70,16 +71,16 @@ module _ {N : Type 0} {start : ℕ → ℕ} (later : (s : ℕ) → s < start s) 
   step s above (by-anchor t a l f g e) (by-nothing t′ l′ f′ g′ e′) hx hy = absurd (hy e′)
   step s above (by-anchor t a l f g e) (by-commit c k′ e′) hx hy = e ∙ yx .commit-anchor s t c a k′ l g ∙ sym e′
   step s above (by-anchor t a l f g e) (by-skip k′ e′) hx hy = e ∙ yx .skip-anchor s t a k′ l g ∙ sym e′
-  step s above (by-anchor t a l f g e) (by-anchor t′ a′ l′ f′ g′ e′) hx hy = go (compare t t′)
+  step s above (by-anchor t a l f g e) (by-anchor t′ a′ l′ f′ g′ e′) hx hy = one-anchor (compare t t′)
     where
-      go : (t < t′) ⊎ ((t ≡ t′) ⊎ (t′ < t)) → X .dec s ≡ Y .dec s
-      go (inl lt) =
+      one-anchor : (t < t′) ⊎ ((t ≡ t′) ⊎ (t′ < t)) → X .dec s ≡ Y .dec s
+      one-anchor (inl lt) =
           let k = f′ t l lt in absurd (skipped-apart g (above t (omega (arith, later s)) (committed-decided g) (skipped-decided k) ∙ k))
-      go (inr (inl q)) =
+      one-anchor (inr (inl q)) =
           let k : Y .dec t ≡ committed a′ = ap (Y .dec) q ∙ g′ in
           let same : a ≡ a′ = committed-same g (above t (omega (arith, later s)) (committed-decided g) (committed-decided k) ∙ k) in
           e ∙ xy .anchor-anchor s t a l g (k ∙ ap committed (sym same)) ∙ ap (Y .pick s) same ∙ sym e′
-      go (inr (inr gt)) =
+      one-anchor (inr (inr gt)) =
           let k = f t′ l′ gt in absurd (skipped-apart g′ (sym (above t′ (omega (arith, later s)) (skipped-decided k) (committed-decided g′)) ∙ k))
 
   -- from the last slot downward: s is at most k below the end
@@ -101,7 +102,8 @@ module _ {N : Type 0} {start : ℕ → ℕ} (later : (s : ℕ) → s < start s) 
   grows g top end s₀ h₀ = up top s₀ (omega arith) h₀
     where
       -- Y's search for s cannot stop at an undecided slot: X has decided every slot up to its anchor
-      never : (s t : ℕ) (a : N) → start s ≤ t → SkippedTo start (X .dec) s t → X .dec t ≡ committed a → Above s → (t′ : ℕ) → start s ≤ t′ → SkippedTo start (Y .dec) s t′ → Y .dec t′ ≡ undecided
+      never : (s t : ℕ) (a : N) → start s ≤ t → SkippedTo start (X .dec) s t → X .dec t ≡ committed a → Above s → (t′ : ℕ) → start s ≤ t′
+          → SkippedTo start (Y .dec) s t′ → Y .dec t′ ≡ undecided
           → (t < t′) ⊎ ((t ≡ t′) ⊎ (t′ < t)) → ⊥
       never s t a l f e above t′ l′ f′ e′ (inl lt) = let k = f′ t l lt in skipped-apart e (agree top end t (committed-decided e) (skipped-decided k) ∙ k)
       never s t a l f e above t′ l′ f′ e′ (inr (inl q)) = above t (omega (arith, later s)) (committed-decided e) (ap (Y .dec) q ∙ e′)
@@ -125,10 +127,12 @@ module _ {N : Type 0} {start : ℕ → ℕ} (later : (s : ℕ) → s < start s) 
 
 -- ---- one box
 
-module _ {N : Type 0} {start : ℕ → ℕ} (later : (s : ℕ) → s < start s) (X : Box N start) (picks : (s t : ℕ) (a : N) → X .dec t ≡ committed a → Decided (X .pick s a)) where
+module _ {N : Type 0} {start : ℕ → ℕ} (later : (s : ℕ) → s < start s) (X : Box N start)
+    (picks : (s t : ℕ) (a : N) → X .dec t ≡ committed a → Decided (X .pick s a)) where
   -- If every slot from `low` to `top` is decided, `top` is committed, and each slot below `low` starts its search at or before `top`,
   -- then every slot up to `top` is decided: a search that starts in that range stops at a committed slot.
-  pub settled-below : (top : ℕ) (a : N) → X .dec top ≡ committed a → (low : ℕ) → ((u : ℕ) → low ≤ u → u ≤ top → Decided (X .dec u)) → ((s : ℕ) → s < low → start s ≤ top)
+  pub settled-below : (top : ℕ) (a : N) → X .dec top ≡ committed a → (low : ℕ) → ((u : ℕ) → low ≤ u → u ≤ top → Decided (X .dec u))
+      → ((s : ℕ) → s < low → start s ≤ top)
       → (s : ℕ) → s ≤ top → Decided (X .dec s)
   settled-below top a e low all starts s le = down low s (omega arith) le
     where
@@ -136,12 +140,12 @@ module _ {N : Type 0} {start : ℕ → ℕ} (later : (s : ℕ) → s < start s) 
       search s st above (by-commit b k q) z = committed-decided q z
       search s st above (by-skip k q) z = skipped-decided q z
       search s st above (by-anchor t b l f g q) z = picks s t b g (sym q ∙ z)
-      search s st above (by-nothing t l f g q) z = go (compare top t)
+      search s st above (by-nothing t l f g q) z = cannot-stop (compare top t)
         where
-          go : (top < t) ⊎ ((top ≡ t) ⊎ (t < top)) → ⊥
-          go (inl lt) = skipped-apart e (f top st lt)
-          go (inr (inl w)) = above t (omega (arith, later s)) (omega arith) g
-          go (inr (inr gt)) = above t (omega (arith, later s)) (omega arith) g
+          cannot-stop : (top < t) ⊎ ((top ≡ t) ⊎ (t < top)) → ⊥
+          cannot-stop (inl lt) = skipped-apart e (f top st lt)
+          cannot-stop (inr (inl w)) = above t (omega (arith, later s)) (omega arith) g
+          cannot-stop (inr (inr gt)) = above t (omega (arith, later s)) (omega arith) g
 
       down : (k s : ℕ) → low ≤ s + k → s ≤ top → Decided (X .dec s)
       down zero s h h′ = all s (omega arith) h′

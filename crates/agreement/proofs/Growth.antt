@@ -34,30 +34,32 @@ use Rattle.agreement.proofs.Agreement.{orders-in}
 -- ---- a slot that a direct rule decides is decided
 
 module _ (C : Setting) {n : ℕ} {vs : List Vertex} (A : Accepted n vs) (s : ℕ) (l : s < C .slots .upTo (highest vs)) where
-  commit-decides : (p : ℕ) → p < length vs → inSlot (C .slots) s (at vs p) ≡ true → directCommit n vs (at vs p) ≡ true → Decided (decisionAt (decisions C n vs) s)
+  commit-decides : (p : ℕ) → p < length vs → inSlot (C .slots) s (at vs p) ≡ true → directCommit n vs (at vs p) ≡ true
+      → Decided (decisionAt (decisions C n vs) s)
   unfolding decide
-  commit-decides p lp i c z = go (choose-is A (C .slots) s (directCommit n vs) _) (sym (decisions-at C n vs s l) ∙ z)
+  commit-decides p lp i c z = never-open (choose-is A (C .slots) s (directCommit n vs) _) (sym (decisions-at C n vs s l) ∙ z)
     where
-      go : {d e : Decision ℕ} → Chosen (C .slots) vs s (directCommit n vs) d e → e ≡ undecided → ⊥
-      go (chosen q lq iq cq b e) u = committed-decided e u
-      go (nobody none e) u = not-both c (none p lp i)
+      never-open : {d e : Decision ℕ} → Chosen (C .slots) vs s (directCommit n vs) d e → e ≡ undecided → ⊥
+      never-open (chosen q lq iq cq b e) u = committed-decided e u
+      never-open (nobody none e) u = not-both c (none p lp i)
 
   skip-decides : C .skip n vs (C .slots .roundOf s) (C .slots .leaderOf s) ≡ true → Decided (decisionAt (decisions C n vs) s)
   unfolding decide
-  skip-decides k z = go (choose-is A (C .slots) s (directCommit n vs) other) (rw k) (sym (decisions-at C n vs s l) ∙ z)
+  skip-decides k z = never-open (choose-is A (C .slots) s (directCommit n vs) other) (rw k) (sym (decisions-at C n vs s l) ∙ z)
     where
       other : Decision ℕ
       other =
           cond (C .skip n vs (C .slots .roundOf s) (C .slots .leaderOf s)) skipped
           (indirect C n vs s (anchor (drop (C .slots .start s - suc s) (drop (suc s) (decisions C n vs)))))
 
-      go : {d e : Decision ℕ} → Chosen (C .slots) vs s (directCommit n vs) d e → d ≡ skipped → e ≡ undecided → ⊥
-      go (chosen q lq iq cq b e) w u = committed-decided e u
-      go (nobody none e) w u = skipped-decided (e ∙ w) u
+      never-open : {d e : Decision ℕ} → Chosen (C .slots) vs s (directCommit n vs) d e → d ≡ skipped → e ≡ undecided → ⊥
+      never-open (chosen q lq iq cq b e) w u = committed-decided e u
+      never-open (nobody none e) w u = skipped-decided (e ∙ w) u
 
 -- ---- the larger table
 
-module _ {n : ℕ} {step : StepRule} {W : World n step} {us ws : List Vertex} (T : TableIn W us) (U : TableIn W ws) (larger : (x : Name) → Holds us x → Holds ws x) where
+module _ {n : ℕ} {step : StepRule} {W : World n step} {us ws : List Vertex} (T : TableIn W us) (U : TableIn W ws)
+    (larger : (x : Name) → Holds us x → Holds ws x) where
   -- where the vertex at p stands in the larger table
   place : ℕ → ℕ
   place p = find ws (nameOf (at us p))
@@ -82,11 +84,14 @@ module _ {n : ℕ} {step : StepRule} {W : World n step} {us ws : List Vertex} (T
   -- a direct commit carries over, with its certificates
   commit-carried : (p : ℕ) → p < length us → directCommit n us (at us p) ≡ true → directCommit n ws (at us p) ≡ true
   commit-carried p lp e =
-      is-commit n ws (at us p) (many-map n (quorum n) (Has us (λ w. certifies n us w (at us p))) (Has ws (λ w. certifies n ws w (at us p))) (λ i li h. carried i h) (commit-is n us (at us p) e))
+      is-commit n ws (at us p)
+      (many-map n (quorum n) (Has us (λ w. certifies n us w (at us p))) (Has ws (λ w. certifies n ws w (at us p)))
+      (λ i li h. carried i h) (commit-is n us (at us p) e))
     where
       carried : (i : ℕ) → Has us (λ w. certifies n us w (at us p)) i → Has ws (λ w. certifies n ws w (at us p)) i
       carried i (q, lq, ei, t) =
-          (place q, place-low q lq, ap (λ v. v .author) (place-is q lq) ∙ ei, ap (λ v. certifies n ws v (at us p)) (place-is q lq) ∙ certifies-carried q p lq lp t)
+          let is = place-is q lq in
+          (place q, place-low q lq, ap (λ v. v .author) is ∙ ei, ap (λ v. certifies n ws v (at us p)) is ∙ certifies-carried q p lq lp t)
 
   -- What is asked of the rules for the direct skip: where the one skips in the smaller table, the other skips in the larger, within its rounds.
   abbrev pub SkipGrows : SkipRule → SkipRule → Type 0
@@ -94,7 +99,9 @@ module _ {n : ℕ} {step : StepRule} {W : World n step} {us ws : List Vertex} (T
 
   -- blank vertices carry over
   pub blank-grows : SkipGrows directSkip directSkip
-  blank-grows r leader e = (is-skip n ws r leader (many-map n (quorum n) (Has us (λ w. blank w r leader)) (Has ws (λ w. blank w r leader)) (λ i li h. carried i h) many), low (some-of n (quorum n) _ (omega arith) many))
+  blank-grows r leader e =
+      let kept = many-map n (quorum n) (Has us (λ w. blank w r leader)) (Has ws (λ w. blank w r leader)) (λ i li h. carried i h) many in
+      (is-skip n ws r leader kept, low (some-of n (quorum n) _ (omega arith) many))
     where
       many : Many n (quorum n) (Has us (λ w. blank w r leader))
       many = skip-is n us r leader e
@@ -116,7 +123,8 @@ module _ {n : ℕ} {step : StepRule} {W : World n step} {us ws : List Vertex} (T
     unfolding view
     grown = record {
       commits = λ s b c. commits s b c;
-      skips = λ s k. let m = more (S .roundOf s) (S .leaderOf s) k in tell-decided _ _ (skip-decides D (U .accepted) s (G .within s (highest ws) (m .1)) (m .0));
+      skips = λ s k.
+          let m = more (S .roundOf s) (S .leaderOf s) k in tell-decided _ _ (skip-decides D (U .accepted) s (G .within s (highest ws) (m .1)) (m .0));
       picks = pick-decided (view U S skip′ G law′);
     }
       where
@@ -125,13 +133,16 @@ module _ {n : ℕ} {step : StepRule} {W : World n step} {us ws : List Vertex} (T
             let p = find us b in
             let is = place-is p (c .held) in
             let up : S .roundOf s ≤ highest ws = omega (arith, round-low p (c .held), slot-is S s (at us p) (c .slotted) .at-round) in
-            tell-decided _ _ (commit-decides D (U .accepted) s (G .within s (highest ws) up) (place p) (place-low p (c .held)) (rw is (c .slotted)) (rw is (commit-carried p (c .held) (c .passes))))
+            tell-decided _ _
+            (commit-decides D (U .accepted) s (G .within s (highest ws) up) (place p) (place-low p (c .held))
+            (rw is (c .slotted)) (rw is (commit-carried p (c .held) (c .passes))))
 
     -- What the smaller table decides, the larger decides; alike, by `alike-in`.
     pub decided-grows : (s : ℕ) → Decided (decisionAt (decisions C n us) s) → Decided (decisionAt (decisions D n ws) s)
     unfolding view tell
     decided-grows s h z =
-        grows (G .later) (boxOf (view T S skip G law)) (boxOf (view U S skip′ G law′)) (fit G (view T S skip G law) (view U S skip′ G law′)) (fit G (view U S skip′ G law′) (view T S skip G law)) grown (S .upTo (highest us))
+        grows (G .later) (boxOf (view T S skip G law)) (boxOf (view U S skip′ G law′)) (fit G (view T S skip G law) (view U S skip′ G law′))
+        (fit G (view U S skip′ G law′) (view T S skip G law)) grown (S .upTo (highest us))
         (λ u l. ap (tell _) (decisions-past C n us u l)) s (tell-decided _ _ h) (ap (tell _) z)
 
     -- Its written order begins the larger one's.

@@ -56,7 +56,8 @@ module _ {n : ℕ} {vs : List Vertex} (A : Accepted n vs) (vertex : Name → Ver
   held-enough : (x : Name) → Holds vs x → 1 < x .round → Many n (quorum n) (λ i. entry (vertex x) i ≢ 0)
   held-enough x h l =
       let up : 1 < at vs (find vs x) .round = rw (ap (λ y. y .round) (find-name vs x h)) l in
-      many-map n (quorum n) _ _ (λ i li t z. eqb-false _ _ (not-true _ t) (ap (λ v. entry v i) (sym (shown x h)) ∙ z)) (many-test n (quorum n) (refers (at vs (find vs x))) (enough A (find vs x) h up))
+      many-map n (quorum n) _ _ (λ i li t z. eqb-false _ _ (not-true _ t) (ap (λ v. entry v i) (sym (shown x h)) ∙ z))
+      (many-test n (quorum n) (refers (at vs (find vs x))) (enough A (find vs x) h up))
 
 -- ---- an author who does not equivocate has one vertex in a round
 
@@ -64,7 +65,9 @@ one-mark : (vs : List Vertex) (a p q : ℕ) → equivocates vs a ≡ false → p
     → at vs q .round ≡ at vs p .round → at vs q .mark ≡ at vs p .mark
 unfolding equivocates
 one-mark vs a p q e lp lq ea eb er =
-    eqb-true _ _ (passed _ (λ t. not-both (and-true _ _ (eq-eqb _ _ ea) (any-intro _ (length vs) q lq (and-true _ _ (eq-eqb _ _ eb) (and-true _ _ (eq-eqb _ _ er) (is-not t))))) (any-none _ (length vs) e p lp)))
+    eqb-true _ _ (passed _ (λ t. not-both
+    (and-true _ _ (eq-eqb _ _ ea) (any-intro _ (length vs) q lq (and-true _ _ (eq-eqb _ _ eb) (and-true _ _ (eq-eqb _ _ er) (is-not t)))))
+    (any-none _ (length vs) e p lp)))
 
 -- ---- the two tables
 
@@ -105,12 +108,14 @@ module _ {n : ℕ} {us ws : List Vertex} (T : Together n us ws) where
   place x (inr h) = (length us + find ws x, omega (arith, length-append us ws), ap nameOf (getD-append-add us ws (find ws x) noVertex) ∙ find-name ws x h)
 
   single : (x y : Name) → In x → In y → x .round ≡ y .round → x .author ≡ y .author → equivocates (us ++ ws) (x .author) ≡ false → x ≡ y
-  single x y ix iy er ea e = go (place x ix) (place y iy)
+  single x y ix iy er ea e = at-places (place x ix) (place y iy)
     where
-      go : (p : ℕ) × (p < length (us ++ ws)) × (nameOf (at (us ++ ws) p) ≡ x) → (q : ℕ) × (q < length (us ++ ws)) × (nameOf (at (us ++ ws) q) ≡ y) → x ≡ y
-      go (p, lp, ep) (q, lq, eq) =
+      at-places : (p : ℕ) × (p < length (us ++ ws)) × (nameOf (at (us ++ ws) p) ≡ x) → (q : ℕ) × (q < length (us ++ ws)) × (nameOf (at (us ++ ws) q) ≡ y)
+          → x ≡ y
+      at-places (p, lp, ep) (q, lq, eq) =
           let level : at (us ++ ws) q .round ≡ at (us ++ ws) p .round = ap (λ z. z .round) eq ∙ sym er ∙ sym (ap (λ z. z .round) ep) in
-          let mark : at (us ++ ws) q .mark ≡ at (us ++ ws) p .mark = one-mark (us ++ ws) (x .author) p q e lp lq (ap (λ z. z .author) ep) (ap (λ z. z .author) eq ∙ sym ea) level in
+          let mark : at (us ++ ws) q .mark ≡ at (us ++ ws) p .mark =
+          one-mark (us ++ ws) (x .author) p q e lp lq (ap (λ z. z .author) ep) (ap (λ z. z .author) eq ∙ sym ea) level in
           name-path x y er ea (sym (ap (λ z. z .mark) ep) ∙ sym mark ∙ ap (λ z. z .mark) eq)
 
   few-faulty : countTo (equivocates (us ++ ws)) n ≤ faults n
@@ -125,7 +130,8 @@ module _ {n : ℕ} {us ws : List Vertex} (T : Together n us ws) where
       In = In;
       named = λ x. ⊎-elim (held-named (T .one) vertex shows-one x) (held-named (T .other) vertex shows-other x);
       positive = λ x. ⊎-elim (held-positive (T .one) vertex shows-one x) (held-positive (T .other) vertex shows-other x);
-      entry-in = λ x i h l nz. ⊎-elim (λ k. inl (held-entry (T .one) vertex shows-one x i k nz)) (λ k. inr (held-entry (T .other) vertex shows-other x i k nz)) h;
+      entry-in = λ x i h l nz.
+          ⊎-elim (λ k. inl (held-entry (T .one) vertex shows-one x i k nz)) (λ k. inr (held-entry (T .other) vertex shows-other x i k nz)) h;
       enough = λ x h l. ⊎-elim (λ k. held-enough (T .one) vertex shows-one x k l) (λ k. held-enough (T .other) vertex shows-other x k l) h;
       reference-step = wider;
       faulty = equivocates (us ++ ws);
@@ -143,10 +149,12 @@ module _ {n : ℕ} {us ws : List Vertex} (T : Together n us ws) where
 
 -- ---- two tables in one world
 
-module _ {n : ℕ} {step : StepRule} {W : World n step} {us ws : List Vertex} (T : TableIn W us) (U : TableIn W ws) (S : Slots) (G : Geometry S) (skip skip′ : SkipRule) (law : SkipLaw T skip) (law′ : SkipLaw U skip′) where
+module _ {n : ℕ} {step : StepRule} {W : World n step} {us ws : List Vertex} (T : TableIn W us) (U : TableIn W ws) (S : Slots) (G : Geometry S)
+    (skip skip′ : SkipRule) (law : SkipLaw T skip) (law′ : SkipLaw U skip′) where
   -- A slot that both have decided is decided alike, told by name.
   pub alike-in : (s : ℕ) → Decided (decisionAt (decisions (setting S skip step) n us) s) → Decided (decisionAt (decisions (setting S skip′ step) n ws) s)
       → told (setting S skip step) n us s ≡ told (setting S skip′ step) n ws s
   unfolding tell view
   alike-in s h k =
-      alike G (view T S skip G law) (view U S skip′ G law′) (S .upTo (highest us)) (λ u l. ap (tell _) (decisions-past (setting S skip step) n us u l)) s (tell-decided _ _ h) (tell-decided _ _ k)
+      alike G (view T S skip G law) (view U S skip′ G law′) (S .upTo (highest us)) (λ u l. ap (tell _) (decisions-past (setting S skip step) n us u l)) s
+      (tell-decided _ _ h) (tell-decided _ _ k)

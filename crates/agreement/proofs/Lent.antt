@@ -35,7 +35,8 @@ leaves n t before c after S = by-answer (lentCheck (boxSetting n) first n t befo
     ds : List (Decision ℕ)
     ds = decisions (boxSetting n) n vs
 
-    by-answer : (k : Told (Unit {0})) → settleIf k (boxSetting n) n vs before .outcome ≡ gives c → settleIf k (boxSetting n) n vs before .buffers ≡ after → Leaves n t c after
+    by-answer : (k : Told (Unit {0})) → settleIf k (boxSetting n) n vs before .outcome ≡ gives c → settleIf k (boxSetting n) n vs before .buffers ≡ after
+        → Leaves n t c after
     by-answer (refused r values) e f = absurd (let z : _≡_ {A = ℕ} 0 1 = cc in omega arith)
     by-answer (gives a) e f =
         let is : countsOf n vs ds (order (boxSetting n) n vs) ≡ c = cc in
@@ -50,7 +51,8 @@ pub demand-3-in-buffers : Demand3InBuffers
 demand-3-in-buffers n t u before before′ c d after after′ P S S′ =
     in-buffers (demand-3 n t u P) (leaves n t before c after S) (leaves n u before′ d after′ S′)
   where
-    in-buffers : Agree (boxSetting n) (boxSetting n) n (vertices first t) (vertices first u) → Leaves n t c after → Leaves n u d after′ → AgreeIn t u c d after after′
+    in-buffers : Agree (boxSetting n) (boxSetting n) n (vertices first t) (vertices first u) → Leaves n t c after → Leaves n u d after′
+        → AgreeIn t u c d after after′
     in-buffers A L L′ = record {
       alike = λ s l l′ h h′. rw (L .cells s l, L′ .cells s l′) (A .alike s (rw (L .cells s l) at h) (rw (L′ .cells s l′) at h′));
       orders = rw (L .places, L′ .places) (A .orders);

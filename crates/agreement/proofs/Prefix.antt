@@ -40,7 +40,8 @@ write-more step vs (committed a ∷ ds) done =
     (new ++ r .0, r .1 ∙ append-assoc done new (r .0))
 
 -- what the one has written begins what the other goes on to write
-begins : (step : StepRule) (us ws : List Vertex) (d e : List ℕ) (es : List (Decision ℕ)) → namesAt us d ≡ namesAt ws e → Begins (namesAt us d) (namesAt ws (writeFrom step ws e es))
+begins : (step : StepRule) (us ws : List Vertex) (d e : List ℕ) (es : List (Decision ℕ)) → namesAt us d ≡ namesAt ws e
+    → Begins (namesAt us d) (namesAt ws (writeFrom step ws e es))
 begins step us ws d e es same =
     let r = write-more step ws es e in
     (namesAt ws (r .0), ap (λ l. l ++ namesAt ws (r .0)) same ∙ sym (map-append _ e (r .0)) ∙ ap (namesAt ws) (sym (r .1)))
@@ -60,13 +61,15 @@ module _ {n : ℕ} {step : StepRule} {W : World n step} where
   new-rising : {vs : List Vertex} (T : TableIn W vs) (a : ℕ) → a < length vs → (d : List ℕ) → Rising Below (namesAt vs (notYet d (history step vs a)))
   unfolding notYet
   new-rising {vs} T a l d =
-      filter-rising Below (λ p. nameOf (at vs p)) _ (length (history step vs a)) (λ i j h k. rising (T .accepted) i j h (omega (arith, history-length (T .accepted) (T .down) (follows T) a l)))
+      filter-rising Below (λ p. nameOf (at vs p)) _ (length (history step vs a))
+      (λ i j h k. rising (T .accepted) i j h (omega (arith, history-length (T .accepted) (T .down) (follows T) a l)))
 
   -- a name that is new in the one table is new in the other
   new-carried : {us ws : List Vertex} (T : TableIn W us) (U : TableIn W ws) (a b : ℕ) → a < length us → b < length ws → nameOf (at us a) ≡ nameOf (at ws b)
-      → (d e : List ℕ) → Within us d → namesAt us d ≡ namesAt ws e → (z : Name) → List·Memᴰ z (namesAt us (notYet d (history step us a))) → List·Memᴰ z (namesAt ws (notYet e (history step ws b)))
+      → (d e : List ℕ) → Within us d → namesAt us d ≡ namesAt ws e → (z : Name) → List·Memᴰ z (namesAt us (notYet d (history step us a)))
+      → List·Memᴰ z (namesAt ws (notYet e (history step ws b)))
   unfolding notYet
-  new-carried {us} {ws} T U a b la lb lead d e wd same z m = go (Memᴰ·of-map _ (notYet d (history step us a)) m)
+  new-carried {us} {ws} T U a b la lb lead d e wd same z m = carried (Memᴰ·of-map _ (notYet d (history step us a)) m)
     where
       H : List Bool
       H = history step ws b
@@ -84,13 +87,17 @@ module _ {n : ℕ} {step : StepRule} {W : World n step} where
       there : (p : ℕ) → p < length us → nameOf (at us p) ≡ z → member p d ≡ false → (q : ℕ) × (q ≤ b) × (nameOf (at ws q) ≡ z) → Reached W (nameOf (at ws b)) z
           → List·Memᴰ z (namesAt ws (filterTo new (length H)))
       there p lp ep out (q, lq, eq) r =
-          let inside : getD H q false ≡ true = history-complete (U .accepted) (U .down) (follows U) b q lb lq (subst (Reached W (nameOf (at ws b))) (sym eq) r) in
-          let unwritten : not (member q e) ≡ true = is-not (failed _ (λ t. not-both (member-complete p d (back p q lp (ep ∙ sym eq) (member-sound q e t))) out)) in
-          Memᴰ·cast (sym eq) (Memᴰ·map _ (filter-complete new (length H) q (omega (arith, history-length (U .accepted) (U .down) (follows U) b lb)) (and-true _ _ inside unwritten)))
+          let inside : getD H q false ≡ true =
+          history-complete (U .accepted) (U .down) (follows U) b q lb lq (subst (Reached W (nameOf (at ws b))) (sym eq) r) in
+          let unwritten : not (member q e) ≡ true =
+          is-not (failed _ (λ t. not-both (member-complete p d (back p q lp (ep ∙ sym eq) (member-sound q e t))) out)) in
+          let low : q < length H = omega (arith, history-length (U .accepted) (U .down) (follows U) b lb) in
+          Memᴰ·cast (sym eq) (Memᴰ·map _ (filter-complete new (length H) q low (and-true _ _ inside unwritten)))
 
-      go : (p : ℕ) × List·Memᴰ p (filterTo (λ p. getD (history step us a) p false and not (member p d)) (length (history step us a))) × (nameOf (at us p) ≡ z)
+      carried : (p : ℕ) × List·Memᴰ p (filterTo (λ p. getD (history step us a) p false and not (member p d)) (length (history step us a)))
+          × (nameOf (at us p) ≡ z)
           → List·Memᴰ z (namesAt ws (filterTo new (length H)))
-      go (p, mp, ep) =
+      carried (p, mp, ep) =
           let f = filter-sound _ (length (history step us a)) p mp in
           let lp : p ≤ a = omega (arith, f .0, history-length (T .accepted) (T .down) (follows T) a la) in
           let r = history-sound (T .accepted) (T .down) (follows T) a p la lp (and-left _ _ (f .1)) in
@@ -98,7 +105,8 @@ module _ {n : ℕ} {step : StepRule} {W : World n step} where
           there p (omega arith) ep (not-true _ (and-right _ _ (f .1))) (reached-at (U .accepted) (U .down) (follows U) b lb z r′) r′
 
   module _ {us ws : List Vertex} (T : TableIn W us) (U : TableIn W ws) where
-    new-same : (a b : ℕ) → a < length us → b < length ws → nameOf (at us a) ≡ nameOf (at ws b) → (d e : List ℕ) → Within us d → Within ws e → namesAt us d ≡ namesAt ws e
+    new-same : (a b : ℕ) → a < length us → b < length ws → nameOf (at us a) ≡ nameOf (at ws b) → (d e : List ℕ) → Within us d → Within ws e
+        → namesAt us d ≡ namesAt ws e
         → namesAt us (notYet d (history step us a)) ≡ namesAt ws (notYet e (history step ws b))
     new-same a b la lb lead d e wd we same =
         rising-same Below below-irrefl below-trans _ _ (new-rising T a la d) (new-rising U b lb e)
@@ -112,7 +120,8 @@ module _ {n : ℕ} {step : StepRule} {W : World n step} where
 
     abbrev pub Alike : List (Decision ℕ) → List (Decision ℕ) → Type 0
     Alike ds es =
-        (t : ℕ) → Decided (decisionAt ds t) → Decided (decisionAt es t) → tell (λ p. nameOf (at us p)) (decisionAt ds t) ≡ tell (λ p. nameOf (at ws p)) (decisionAt es t)
+        (t : ℕ) → Decided (decisionAt ds t) → Decided (decisionAt es t)
+        → tell (λ p. nameOf (at us p)) (decisionAt ds t) ≡ tell (λ p. nameOf (at ws p)) (decisionAt es t)
 
     -- a slot that the first decides and the second does not
     abbrev pub Ahead : List (Decision ℕ) → List (Decision ℕ) → Type 0
@@ -127,7 +136,8 @@ module _ {n : ℕ} {step : StepRule} {W : World n step} where
 
     -- The first order begins the second; or the second begins the first, and then the first decides a slot that the second does not.
     pub orders : (ds es : List (Decision ℕ)) (d e : List ℕ) → Leads us ds → Leads ws es → Alike ds es → Within us d → Within ws e → namesAt us d ≡ namesAt ws e
-        → Begins (namesAt us (writeFrom step us d ds)) (namesAt ws (writeFrom step ws e es)) ⊎ (Begins (namesAt ws (writeFrom step ws e es)) (namesAt us (writeFrom step us d ds)) × Ahead ds es)
+        → Begins (namesAt us (writeFrom step us d ds)) (namesAt ws (writeFrom step ws e es))
+        ⊎ (Begins (namesAt ws (writeFrom step ws e es)) (namesAt us (writeFrom step us d ds)) × Ahead ds es)
     unfolding writeFrom tell
     orders [] es d e lu lw al wd we same = inl (begins step us ws d e es same)
     orders (undecided ∷ ds) es d e lu lw al wd we same = inl (begins step us ws d e es same)
@@ -137,7 +147,8 @@ module _ {n : ℕ} {step : StepRule} {W : World n step} where
         ahead-next skipped skipped ds es (orders ds es d e (λ t. lu (suc t)) (λ t. lw (suc t)) (λ t. al (suc t)) wd we same)
     orders (skipped ∷ ds) (committed b ∷ es) d e lu lw al wd we same = absurd (skipped-apart refl (sym (al 0 (skipped-decided refl) (committed-decided refl))))
     orders (committed a ∷ ds) [] d e lu lw al wd we same = inr (begins step ws us e d (committed a ∷ ds) (sym same), (0, committed-decided refl, refl))
-    orders (committed a ∷ ds) (undecided ∷ es) d e lu lw al wd we same = inr (begins step ws us e d (committed a ∷ ds) (sym same), (0, committed-decided refl, refl))
+    orders (committed a ∷ ds) (undecided ∷ es) d e lu lw al wd we same =
+        inr (begins step ws us e d (committed a ∷ ds) (sym same), (0, committed-decided refl, refl))
     orders (committed a ∷ ds) (skipped ∷ es) d e lu lw al wd we same = absurd (skipped-apart refl (al 0 (committed-decided refl) (skipped-decided refl)))
     orders (committed a ∷ ds) (committed b ∷ es) d e lu lw al wd we same =
         let la = lu 0 a refl in
@@ -146,5 +157,6 @@ module _ {n : ℕ} {step : StepRule} {W : World n step} where
         let g = notYet e (history step ws b) in
         let lead = committed-same refl (al 0 (committed-decided refl) (committed-decided refl)) in
         let more : namesAt us f ≡ namesAt ws g = new-same a b la lb lead d e wd we same in
-        ahead-next (committed a) (committed b) ds es (orders ds es (d ++ f) (e ++ g) (λ t. lu (suc t)) (λ t. lw (suc t)) (λ t. al (suc t)) (grow us d f wd (new-within T a la d)) (grow ws e g we (new-within U b lb e))
-        (map-append _ d f ∙ ap₂ _++_ same more ∙ sym (map-append _ e g)))
+        ahead-next (committed a) (committed b) ds es
+        (orders ds es (d ++ f) (e ++ g) (λ t. lu (suc t)) (λ t. lw (suc t)) (λ t. al (suc t))
+        (grow us d f wd (new-within T a la d)) (grow ws e g we (new-within U b lb e)) (map-append _ d f ∙ ap₂ _++_ same more ∙ sym (map-append _ e g)))

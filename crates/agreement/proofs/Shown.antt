@@ -1,5 +1,6 @@
 -- What the premises of demand 3 are worth: they can be met, by two tables of document 01 that differ and decide; and without one record to a
--- name, or with f + 1 authors who have two vertices, two boxes can contradict each other, where all the other premises hold.
+-- name, or with f + 1 authors who have two vertices, two boxes can contradict each other, where all the other premises hold. Those f + 1 need not
+-- show in either table.
 -- Assumes nothing.
 use Prim.Native.Nat.{ℕ, suc, _<_}
 use mathlib.Core.Path.{_≡_, refl, ap, ap₂, _∙_}
@@ -15,17 +16,17 @@ use Rattle.folds.proofs.Laws.{any-none}
 use Rattle.rules.specs.declared.Name.{Name}
 use Rattle.rules.specs.Refusals.{passed as passes}
 use Rattle.rules.specs.Authors.{faults}
-use Rattle.rules.specs.Record.{Edition, first, recordAt, records, vertices, at, nameOf, sameName}
+use Rattle.rules.specs.Record.{Edition, first, recordAt, records, vertices, at, nameOf, named, sameName}
 use Rattle.rules.specs.Check.{check}
 use Rattle.rules.specs.Decision.{skipped, committed, tell}
 use Rattle.rules.specs.Decide.{boxSetting}
 use Rattle.rules.specs.Settlement.{equivocators}
-use Rattle.rules.specs.Tables.{unsummed, summed, v, p2, p3}
+use Rattle.rules.specs.Tables.{p2, p3}
 use Rattle.rules.specs.Open.{rules-open}
 use Rattle.rules.proofs.Names.{name-same}
 use Rattle.rules.proofs.Decisions.{skipped-apart, skipped-decided, committed-decided}
 use Rattle.agreement.specs.Agreement.{Premises, told}
-use Rattle.agreement.specs.Pairs.{second, commits1, otherRecord, twoTwice, Contradict, WithoutOneRecord, WithoutFew}
+use Rattle.agreement.specs.Pairs.{commits1, otherRecord, twoTwice, Contradict, WithoutOneRecord, WithoutFew, Unseen}
 
 -- ---- one record to a name, as a test
 
@@ -77,7 +78,7 @@ pub met : Premises first 4 p2 p3
 met = record { one-passes = passes2; other-passes = passes3; same-record = no-clash first p2 p3 agree23; few = leb-true _ _ few23 }
 
 abbrev leader1 : Name
-leader1 = record { round = 1; author = 0; mark = 1 }
+leader1 = named 1 0 1
 
 -- both decide round 1, and the tables differ
 pub met2 : told (boxSetting 4) 4 (vertices first p2) 0 ≡ committed leader1
@@ -98,33 +99,34 @@ differ e = eqb-false _ _ lengths (ap length e)
 -- ---- the pairs that contradict each other
 
 -- round 1 is committed by the one and skipped by the other
-contradict : (t u : List ℕ) (b : Name) → told (boxSetting 4) 4 (vertices first t) 0 ≡ committed b → told (boxSetting 4) 4 (vertices first u) 0 ≡ skipped → Contradict t u
+contradict : (t u : List ℕ) (b : Name) → told (boxSetting 4) 4 (vertices first t) 0 ≡ committed b → told (boxSetting 4) 4 (vertices first u) 0 ≡ skipped
+    → Contradict t u
 unfolding tell
 contradict t u b e k A = skipped-apart e (A .alike 0 (λ z. committed-decided e (ap (tell _) z)) (λ z. skipped-decided k (ap (tell _) z)) ∙ k)
 
 passes-commits : check first 4 commits1 ≡ passes
-unfolding rules-open commits1 v unsummed summed
+unfolding rules-open commits1
 passes-commits = refl
 
 commits : told (boxSetting 4) 4 (vertices first commits1) 0 ≡ committed leader1
-unfolding rules-open commits1 v unsummed summed
+unfolding rules-open commits1
 commits = refl
 
 passes-record : check first 4 otherRecord ≡ passes
-unfolding rules-open otherRecord second v unsummed summed
+unfolding rules-open otherRecord
 passes-record = refl
 
 skips-record : told (boxSetting 4) 4 (vertices first otherRecord) 0 ≡ skipped
-unfolding rules-open otherRecord second v unsummed summed
+unfolding rules-open otherRecord
 skips-record = refl
 
 few-record : leb (equivocators 4 (vertices first commits1 ++ vertices first otherRecord)) (faults 4) ≡ true
-unfolding rules-open commits1 otherRecord second v unsummed summed
+unfolding rules-open commits1 otherRecord
 few-record = refl
 
 -- one name stands for two records, and no other
 pub one-name : countTo (λ p. anyTo (clash first commits1 otherRecord p) (records first otherRecord)) (records first commits1) ≡ 1
-unfolding rules-open commits1 otherRecord second v unsummed summed clash sameBytes
+unfolding rules-open commits1 otherRecord clash sameBytes
 one-name = refl
 
 pub without-one-record : WithoutOneRecord
@@ -136,19 +138,19 @@ without-one-record = record {
 }
 
 passes-twice : check first 4 twoTwice ≡ passes
-unfolding rules-open twoTwice second v unsummed summed
+unfolding rules-open twoTwice
 passes-twice = refl
 
 skips-twice : told (boxSetting 4) 4 (vertices first twoTwice) 0 ≡ skipped
-unfolding rules-open twoTwice second v unsummed summed
+unfolding rules-open twoTwice
 skips-twice = refl
 
 agree-twice : clashes first commits1 twoTwice ≡ false
-unfolding rules-open commits1 twoTwice second v unsummed summed clashes clash sameBytes
+unfolding rules-open commits1 twoTwice clashes clash sameBytes
 agree-twice = refl
 
 many-twice : equivocators 4 (vertices first commits1 ++ vertices first twoTwice) ≡ suc (faults 4)
-unfolding rules-open commits1 twoTwice second v unsummed summed
+unfolding rules-open commits1 twoTwice
 many-twice = refl
 
 pub without-few : WithoutFew
@@ -159,3 +161,14 @@ without-few = record {
   one-too-many = many-twice;
   contradict = contradict commits1 twoTwice leader1 commits skips-twice;
 }
+
+none-commits : equivocators 4 (vertices first commits1) ≡ 0
+unfolding rules-open commits1
+none-commits = refl
+
+none-twice : equivocators 4 (vertices first twoTwice) ≡ 0
+unfolding rules-open twoTwice
+none-twice = refl
+
+pub unseen : Unseen
+unseen = record { none-in-one = none-commits; none-in-other = none-twice; one-commits = commits; other-skips = skips-twice }

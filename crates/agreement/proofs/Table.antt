@@ -7,6 +7,7 @@ use mathlib.Core.Logic.{_≢_}
 use mathlib.Core.Bool.{true, false}
 use mathlib.Core.List.{List}
 use native.Mathlib.Omega.{arith}
+use native.Mathlib.Nat.{le-refl}
 use lib.ListN.{length, getD}
 use Rattle.folds.specs.Folds.{_and_, anyTo}
 use Rattle.folds.specs.Many.{Many}
@@ -26,7 +27,7 @@ use Rattle.rules.proofs.Accepted.{Accepted, earlier, find-at}
 use Rattle.rules.proofs.Support.{Has, references-is, blank-is, Backs, certifies-is, is-certifies, commit-is, skip-is}
 use Rattle.rules.proofs.History.{Downward, Follows, reached-at, history-length, history-sound, history-complete}
 use Rattle.rules.proofs.Decisions.{tell-committed}
-use Rattle.rules.proofs.Decide.{slot-is, is-slot, Chosen, chosen, nobody, choose-is, Because, direct, skips, through, blocked, because, leads}
+use Rattle.rules.proofs.Decide.{slot-is, is-slot, Chosen, chosen, nobody, choose-is, Because, direct, skips, through, blocked, past, because, past-stops, leads}
 use Rattle.agreement.specs.Agreement.{told}
 use Rattle.agreement.proofs.Boxes.{Why, by-commit, by-skip, by-anchor, by-nothing}
 use Rattle.agreement.proofs.World as world
@@ -99,7 +100,8 @@ module _ {n : ℕ} {step : StepRule} {W : World n step} {vs : List Vertex} (T : 
 
   -- A vertex that is blank for b's round does not reference b.
   pub blank-law : SkipLaw directSkip
-  blank-law b e = many-map n (quorum n) (Has vs (λ w. blank w (b .round) (b .author))) (Without W b) (λ i li h. without i h) (skip-is n vs (b .round) (b .author) e)
+  blank-law b e =
+      many-map n (quorum n) (Has vs (λ w. blank w (b .round) (b .author))) (Without W b) (λ i li h. without i h) (skip-is n vs (b .round) (b .author) e)
     where
       without : (i : ℕ) → Has vs (λ w. blank w (b .round) (b .author)) i → Without W b i
       without i (p, l, ei, t) =
@@ -116,20 +118,22 @@ module _ {n : ℕ} {step : StepRule} {W : World n step} {vs : List Vertex} (T : 
 
   certified-is : (a p : ℕ) → a < length vs → certifiedIn n vs (history step vs a) (at vs p) ≡ true → CertifiedIn W (name a) (name p)
   unfolding certifiedIn
-  certified-is a p l e = go (any-witness _ (length (history step vs a)) e)
+  certified-is a p l e = certified-by (any-witness _ (length (history step vs a)) e)
     where
-      go : (q : ℕ) × (q < length (history step vs a)) × (getD (history step vs a) q false and certifies n vs (at vs q) (at vs p) ≡ true)
+      certified-by : (q : ℕ) × (q < length (history step vs a)) × (getD (history step vs a) q false and certifies n vs (at vs q) (at vs p) ≡ true)
           → CertifiedIn W (name a) (name p)
-      go (q, lq, t) =
+      certified-by (q, lq, t) =
           let la : q ≤ a = omega (arith, history-length A (T .down) follows a l) in
-          record { who = name q; reached = history-sound A (T .down) follows a q l la (and-left _ _ t); certifies = certificate-is q p (omega arith) (and-right _ _ t) }
+          let reached = history-sound A (T .down) follows a q l la (and-left _ _ t) in
+          record { who = name q; reached = reached; certifies = certificate-is q p (omega arith) (and-right _ _ t) }
 
   is-certified : (a p : ℕ) → a < length vs → CertifiedIn W (name a) (name p) → certifiedIn n vs (history step vs a) (at vs p) ≡ true
   unfolding certifiedIn
-  is-certified a p l c = go (reached-at A (T .down) follows a l (c .who) (c .reached))
+  is-certified a p l c = found-at (reached-at A (T .down) follows a l (c .who) (c .reached))
     where
-      go : (q : ℕ) × (q ≤ a) × (name q ≡ c .who) → anyTo (λ q. getD (history step vs a) q false and certifies n vs (at vs q) (at vs p)) (length (history step vs a)) ≡ true
-      go (q, la, e) =
+      found-at : (q : ℕ) × (q ≤ a) × (name q ≡ c .who)
+          → anyTo (λ q. getD (history step vs a) q false and certifies n vs (at vs q) (at vs p)) (length (history step vs a)) ≡ true
+      found-at (q, la, e) =
           let reached = subst (Reaches _ (name a)) (sym e) (c .reached) in
           let certificate = subst (λ x. Certificate W x (name p)) (sym e) (c .certifies) in
           any-intro _ (length (history step vs a)) q (omega (arith, history-length A (T .down) follows a l))
@@ -151,7 +155,8 @@ module _ {n : ℕ} {step : StepRule} {W : World n step} {vs : List Vertex} (T : 
     pub commits : (s : ℕ) (b : Name) → Commit s b → OfSlot S s b × Many n (quorum n) (CertifiedBy W b)
     commits s b c = subst (λ x. OfSlot S s x × Many n (quorum n) (CertifiedBy W x)) (find-name vs b (c .held)) (
       slot-name s p (c .slotted),
-      many-map n (quorum n) (Has vs (λ w. certifies n vs w (at vs p))) (CertifiedBy W (name p)) (λ i li h. certifier i h) (commit-is n vs (at vs p) (c .passes)),
+      many-map n (quorum n) (Has vs (λ w. certifies n vs w (at vs p))) (CertifiedBy W (name p)) (λ i li h. certifier i h)
+          (commit-is n vs (at vs p) (c .passes)),
     )
       where
         p : ℕ
@@ -162,11 +167,11 @@ module _ {n : ℕ} {step : StepRule} {W : World n step} {vs : List Vertex} (T : 
 
     picks : (s a : ℕ) → a < length vs → Picked W S (Holds vs) s (name a) (tell name (throughAnchor (setting S skip step) n vs s a))
     unfolding throughAnchor tell
-    picks s a l = go (choose-is A S s (certifiedIn n vs (history step vs a)) skipped)
+    picks s a l = pick-is (choose-is A S s (certifiedIn n vs (history step vs a)) skipped)
       where
-        go : {d : Decision ℕ} → Chosen S vs s (certifiedIn n vs (history step vs a)) skipped d → Picked W S (Holds vs) s (name a) (tell name d)
-        go (chosen p lp i c b e) = world.chose (name p) (slot-name s p i) (certified-is a p l c) (ap (tell name) e)
-        go (nobody none e) = world.nobody none-of (ap (tell name) e)
+        pick-is : {d : Decision ℕ} → Chosen S vs s (certifiedIn n vs (history step vs a)) skipped d → Picked W S (Holds vs) s (name a) (tell name d)
+        pick-is (chosen p lp i c b e) = world.chose (name p) (slot-name s p i) (certified-is a p l c) (ap (tell name) e)
+        pick-is (nobody none e) = world.nobody none-of (ap (tell name) e)
           where
             none-of : (b : Name) → OfSlot S s b → Holds vs b → CertifiedIn W (name a) b → ⊥
             none-of b sb h c =
@@ -185,27 +190,31 @@ module _ {n : ℕ} {step : StepRule} {W : World n step} {vs : List Vertex} (T : 
       pick s x = tell name (throughAnchor (setting S skip step) n vs s (find vs x))
 
       pub leader-held : (t : ℕ) (x : Name) → dec t ≡ committed x → Holds vs x × OfSlot S t x
-      leader-held t x e = go (tell-committed name (decisionAt (decisions (setting S skip step) n vs) t) x e)
+      leader-held t x e = held-at (tell-committed name (decisionAt (decisions (setting S skip step) n vs) t) x e)
         where
-          go : (p : ℕ) × (decisionAt (decisions (setting S skip step) n vs) t ≡ committed p) × (name p ≡ x) → Holds vs x × OfSlot S t x
-          go (p, e′, ex) =
+          held-at : (p : ℕ) × (decisionAt (decisions (setting S skip step) n vs) t ≡ committed p) × (name p ≡ x) → Holds vs x × OfSlot S t x
+          held-at (p, e′, ex) =
               let h = leads (setting S skip step) (G .later) A t p e′ in
               let held : Holds vs (name p) = rw (find-at A p (h .0)) (h .0) in
               (subst (Holds vs) ex held, subst (OfSlot S t) ex (slot-name t p (h .1)))
 
       pub why : (s : ℕ) → Why (S .start) Commit Skip pick dec s
       unfolding tell
-      why s = go (because (setting S skip step) (G .later) A s)
+      why s = told-so (because (setting S skip step) (G .later) A s)
         where
-          go : Because (setting S skip step) n vs s (decisionAt (decisions (setting S skip step) n vs) s) → Why (S .start) Commit Skip pick dec s
-          go (direct p l i c e) =
+          told-so : Because (setting S skip step) n vs s (decisionAt (decisions (setting S skip step) n vs) s) → Why (S .start) Commit Skip pick dec s
+          told-so (direct p l i c m e) =
               let here : find vs (name p) ≡ p = find-at A p l in
               by-commit (name p) (record { held = rw here l; slotted = rw here i; passes = rw here c }) (ap (tell name) e)
-          go (skips b e) = by-skip b (ap (tell name) e)
-          go (through t a l f g e) =
+          told-so (skips none b e) = by-skip b (ap (tell name) e)
+          told-so (through none t a l f g e) =
               by-anchor t (name a) l (λ u h h′. ap (tell name) (f u h h′)) (ap (tell name) g)
-              (ap (tell name) e ∙ ap (λ p. tell name (throughAnchor (setting S skip step) n vs s p)) (sym (find-at A a (leads (setting S skip step) (G .later) A t a g .0))))
-          go (blocked t l f g e) = by-nothing t l (λ u h h′. ap (tell name) (f u h h′)) (ap (tell name) g) (ap (tell name) e)
+              (ap (tell name) e
+              ∙ ap (λ p. tell name (throughAnchor (setting S skip step) n vs s p)) (sym (find-at A a (leads (setting S skip step) (G .later) A t a g .0))))
+          told-so (blocked none t l f g e) = by-nothing t l (λ u h h′. ap (tell name) (f u h h′)) (ap (tell name) g) (ap (tell name) e)
+          told-so (past o e) =
+              let k = past-stops (setting S skip step) (G .later) A s o in
+              by-nothing (S .start s) (le-refl (S .start s)) (λ u h h′. ap (tell name) (k .0 u h h′)) (ap (tell name) (k .1)) (ap (tell name) e)
 
       pub picked : (s : ℕ) (x : Name) → Holds vs x → Picked W S (Holds vs) s x (pick s x)
       picked s x h = subst (λ y. Picked W S (Holds vs) s y (pick s x)) (find-name vs x h) (picks s (find vs x) h)

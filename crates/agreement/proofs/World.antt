@@ -117,32 +117,34 @@ module _ {n : ℕ} {step : StepRule} (W : World n step) where
   -- supporters share an author with one vertex in their round, and that one has one entry for the leader.
   pub certified-same : (w w′ b b′ : Name) → Certificate w b → Certificate w′ b′ → b .round ≡ b′ .round → b .author ≡ b′ .author → b ≡ b′
   certified-same w w′ b b′ c c′ er ea =
-      go (meet n (faults n) (Supported w b) (Supported w′ b′) (W .faulty) (W .count) (W .few) (c .supported) (c′ .supported))
+      one-vertex (meet n (faults n) (Supported w b) (Supported w′ b′) (W .faulty) (W .count) (W .few) (c .supported) (c′ .supported))
     where
-      go : Shared n (Supported w b) (Supported w′ b′) (W .faulty) → b ≡ b′
-      go m =
+      one-vertex : Shared n (Supported w b) (Supported w′ b′) (W .faulty) → b ≡ b′
+      one-vertex m =
           let x = entryName (W .vertex w) (m .who) in
           let x′ = entryName (W .vertex w′) (m .who) in
           let up : w .round ≡ b .round + 1 + 1 = omega (arith, c .two-up) in
           let up′ : w′ .round ≡ b .round + 1 + 1 = omega (arith, c′ .two-up) in
           let level : pred (W .vertex w .round) ≡ pred (W .vertex w′ .round) = entry-round w _ (c .is-in) up ∙ sym (entry-round w′ _ (c′ .is-in) up′) in
-          let one : x ≡ x′ =
-          W .single x x′ (W .entry-in w (m .who) (c .is-in) (m .low) (m .left .nonzero)) (W .entry-in w′ (m .who) (c′ .is-in) (m .low) (m .right .nonzero)) level refl (m .honest) in
+          let here = W .entry-in w (m .who) (c .is-in) (m .low) (m .left .nonzero) in
+          let here′ = W .entry-in w′ (m .who) (c′ .is-in) (m .low) (m .right .nonzero) in
+          let one : x ≡ x′ = W .single x x′ here here′ level refl (m .honest) in
           let mark : b .mark ≡ b′ .mark =
-          sym (references-is _ b (m .left .supports) .names) ∙ ap (λ y. entry (W .vertex y) (b .author)) one ∙ ap (entry (W .vertex x′)) ea ∙ references-is _ b′ (m .right .supports) .names in
+          sym (references-is _ b (m .left .supports) .names) ∙ ap (λ y. entry (W .vertex y) (b .author)) one
+          ∙ ap (entry (W .vertex x′)) ea ∙ references-is _ b′ (m .right .supports) .names in
           name-path b b′ er ea mark
 
   -- Certificate against direct skip: an author in both quorums would both reference b and not.
   pub certified-not-skipped : (w b : Name) → Certificate w b → Many n (quorum n) (Without b) → ⊥
-  certified-not-skipped w b c many = go (meet n (faults n) (Supported w b) (Without b) (W .faulty) (W .count) (W .few) (c .supported) many)
+  certified-not-skipped w b c many = shared-supporter (meet n (faults n) (Supported w b) (Without b) (W .faulty) (W .count) (W .few) (c .supported) many)
     where
-      go : Shared n (Supported w b) (Without b) (W .faulty) → ⊥
-      go m =
+      shared-supporter : Shared n (Supported w b) (Without b) (W .faulty) → ⊥
+      shared-supporter m =
           let x = entryName (W .vertex w) (m .who) in
           let k = m .right in
           let up : w .round ≡ k .who .round + 1 = omega (arith, c .two-up, k .one-up) in
-          let one : x ≡ k .who =
-          W .single x (k .who) (W .entry-in w (m .who) (c .is-in) (m .low) (m .left .nonzero)) (k .is-in) (entry-round w _ (c .is-in) up) (sym (k .by)) (m .honest) in
+          let here = W .entry-in w (m .who) (c .is-in) (m .low) (m .left .nonzero) in
+          let one : x ≡ k .who = W .single x (k .who) here (k .is-in) (entry-round w _ (c .is-in) up) (sym (k .by)) (m .honest) in
           not-both (m .left .supports) (ap (λ y. references (W .vertex y) b) one ∙ k .does-not)
 
   -- Author i has a vertex of round r in the history of a.
@@ -157,20 +159,21 @@ module _ {n : ℕ} {step : StepRule} (W : World n step) where
   pub lower-round : (k r : ℕ) (a v : Name) → 0 < r → Reached a v → W .In v → v .round ≡ r + k → (i : ℕ) × ReachedBy a r i
   lower-round zero r a v pos h iv e = (v .author, record { who = v; reached = h; is-in = iv; at-round = omega arith; by = refl })
   lower-round (suc k) r a v pos h iv e =
-      go (λ x h ix e. lower-round k r a x pos h ix e) (some-of n (quorum n) (λ i. entry (W .vertex v) i ≢ 0) (omega arith) (W .enough v iv (omega arith)))
+      one-lower (λ x h ix e. lower-round k r a x pos h ix e)
+      (some-of n (quorum n) (λ i. entry (W .vertex v) i ≢ 0) (omega arith) (W .enough v iv (omega arith)))
     where
-      go : ((x : Name) → Reached a x → W .In x → x .round ≡ r + k → (i : ℕ) × ReachedBy a r i) → (i : ℕ) × (i < n) × (entry (W .vertex v) i ≢ 0)
+      one-lower : ((x : Name) → Reached a x → W .In x → x .round ≡ r + k → (i : ℕ) × ReachedBy a r i) → (i : ℕ) × (i < n) × (entry (W .vertex v) i ≢ 0)
           → (i : ℕ) × ReachedBy a r i
-      go rest (i, l, nz) =
+      one-lower rest (i, l, nz) =
           let up : v .round ≡ r + k + 1 = omega arith in
           rest (entryName (W .vertex v) i) (entry-step a v i h iv nz) (W .entry-in v i iv l nz) (entry-round v _ iv up)
 
   -- In every round below a's, at least 2f+1 authors have a vertex in the history of a.
   pub quorum-below : (a : Name) (r : ℕ) → W .In a → 0 < r → r < a .round → Many n (quorum n) (ReachedBy a r)
-  quorum-below a r ia pos l = go (lower-round (a .round - (r + 1)) (r + 1) a a (omega arith) itself ia (omega arith))
+  quorum-below a r ia pos l = from-there (lower-round (a .round - (r + 1)) (r + 1) a a (omega arith) itself ia (omega arith))
     where
-      go : (i : ℕ) × ReachedBy a (r + 1) i → Many n (quorum n) (ReachedBy a r)
-      go (j, k) =
+      from-there : (i : ℕ) × ReachedBy a (r + 1) i → Many n (quorum n) (ReachedBy a r)
+      from-there (j, k) =
           let v = k .who in
           many-map n (quorum n) (λ i. entry (W .vertex v) i ≢ 0) (ReachedBy a r) (λ i li nz. record {
             who = entryName (W .vertex v) i;
@@ -184,14 +187,17 @@ module _ {n : ℕ} {step : StepRule} (W : World n step) where
   -- history. The authors that its history has in the round of the certificates and those that certify share one with a single vertex there.
   pub certified-later : (a b : Name) → W .In a → b .round + 3 ≤ a .round → Many n (quorum n) (CertifiedBy b) → CertifiedIn a b
   certified-later a b ia h many =
-      go (meet n (faults n) (ReachedBy a (b .round + 2)) (CertifiedBy b) (W .faulty) (W .count) (W .few) (quorum-below a (b .round + 2) ia (omega arith) (omega arith)) many)
+      shared-certifier
+      (meet n (faults n) (ReachedBy a (b .round + 2)) (CertifiedBy b) (W .faulty) (W .count) (W .few)
+      (quorum-below a (b .round + 2) ia (omega arith) (omega arith)) many)
     where
-      go : Shared n (ReachedBy a (b .round + 2)) (CertifiedBy b) (W .faulty) → CertifiedIn a b
-      go m =
+      shared-certifier : Shared n (ReachedBy a (b .round + 2)) (CertifiedBy b) (W .faulty) → CertifiedIn a b
+      shared-certifier m =
           let x = m .left in
           let k = m .right in
+          let level = x .at-round ∙ sym (k .certifies .two-up) in
           let one : x .who ≡ k .who =
-          W .single (x .who) (k .who) (x .is-in) (k .certifies .is-in) (x .at-round ∙ sym (k .certifies .two-up)) (x .by ∙ sym (k .by)) (ap (W .faulty) (x .by) ∙ m .honest) in
+          W .single (x .who) (k .who) (x .is-in) (k .certifies .is-in) level (x .by ∙ sym (k .by)) (ap (W .faulty) (x .by) ∙ m .honest) in
           record { who = k .who; reached = subst (Reached a) one (x .reached); certifies = k .certifies }
 
   -- there is a certificate for b
@@ -238,20 +244,20 @@ module _ {n : ℕ} {step : StepRule} {W : World n step} {S : Slots} where
 
   -- What is certified in the history of a vertex that a view holds, the view holds: a supporter of it is in that history.
   pub has-certified : (Y : View W S) (a b : Name) → Y .has a → CertifiedIn W a b → Y .has b
-  has-certified Y a b ha c = go (some-of n (quorum n) (Supported W (c .who) b) (omega arith) (c .certifies .supported))
+  has-certified Y a b ha c = by-supporter (some-of n (quorum n) (Supported W (c .who) b) (omega arith) (c .certifies .supported))
     where
-      go : (i : ℕ) × (i < n) × Supported W (c .who) b i → Y .has b
-      go (i, l, k) =
+      by-supporter : (i : ℕ) × (i < n) × Supported W (c .who) b i → Y .has b
+      by-supporter (i, l, k) =
           let x = has-reached Y a _ ha (entry-step W a (c .who) i (c .reached) (c .certifies .is-in) (k .nonzero)) in
           Y .has-step _ b x (W .reference-step _ b (k .supports))
 
   -- an anchor decides
   pub pick-decided : (Y : View W S) (s t : ℕ) (a : Name) → Y .dec t ≡ committed a → Decided (Y .pick s a)
-  pick-decided Y s t a e = go (Y .picked s a (Y .leads t a e .0))
+  pick-decided Y s t a e = either-way (Y .picked s a (Y .leads t a e .0))
     where
-      go : Picked W S (Y .has) s a (Y .pick s a) → Decided (Y .pick s a)
-      go (chose b sb c q) = committed-decided q
-      go (nobody none q) = skipped-decided q
+      either-way : Picked W S (Y .has) s a (Y .pick s a) → Decided (Y .pick s a)
+      either-way (chose b sb c q) = committed-decided q
+      either-way (nobody none q) = skipped-decided q
 
   module _ (G : Geometry S) (X Y : View W S) where
     commit-commit : (s : ℕ) (b c : Name) → X .Commits s b → Y .Commits s c → b ≡ c
@@ -267,10 +273,10 @@ module _ {n : ℕ} {step : StepRule} {W : World n step} {S : Slots} where
         certified-not-skipped W (y .0) b (y .1) (Y .skips s b k′ (x .0))
 
     commit-anchor : (s t : ℕ) (b a : Name) → X .Commits s b → S .start s ≤ t → Y .dec t ≡ committed a → Y .pick s a ≡ committed b
-    commit-anchor s t b a k l e = go (X .commits s b k) (Y .leads t a e)
+    commit-anchor s t b a k l e = anchored-choice (X .commits s b k) (Y .leads t a e)
       where
-        go : OfSlot S s b × Many n (quorum n) (CertifiedBy W b) → Y .has a × OfSlot S t a → Y .pick s a ≡ committed b
-        go (sb, many) (ha, sa) = choice (Y .picked s a ha)
+        anchored-choice : OfSlot S s b × Many n (quorum n) (CertifiedBy W b) → Y .has a × OfSlot S t a → Y .pick s a ≡ committed b
+        anchored-choice (sb, many) (ha, sa) = choice (Y .picked s a ha)
           where
             there : CertifiedIn W a b
             there = certified-later W a b (Y .has-in a ha) (omega (arith, G .three-up s t l, sb .at-round, sa .at-round)) many
@@ -280,14 +286,14 @@ module _ {n : ℕ} {step : StepRule} {W : World n step} {S : Slots} where
             choice (nobody none q) = absurd (none b sb (has-certified Y a b ha there) there)
 
     skip-anchor : (s t : ℕ) (a : Name) → X .Skips s → S .start s ≤ t → Y .dec t ≡ committed a → Y .pick s a ≡ skipped
-    skip-anchor s t a k l e = go (Y .picked s a (Y .leads t a e .0))
+    skip-anchor s t a k l e = none-certified (Y .picked s a (Y .leads t a e .0))
       where
-        go : Picked W S (Y .has) s a (Y .pick s a) → Y .pick s a ≡ skipped
-        go (chose c sc ci q) = absurd (certified-not-skipped W (ci .who) c (ci .certifies) (X .skips s c k sc))
-        go (nobody none q) = q
+        none-certified : Picked W S (Y .has) s a (Y .pick s a) → Y .pick s a ≡ skipped
+        none-certified (chose c sc ci q) = absurd (certified-not-skipped W (ci .who) c (ci .certifies) (X .skips s c k sc))
+        none-certified (nobody none q) = q
 
     anchor-anchor : (s t : ℕ) (a : Name) → S .start s ≤ t → X .dec t ≡ committed a → Y .dec t ≡ committed a → X .pick s a ≡ Y .pick s a
-    anchor-anchor s t a l e e′ = go (X .picked s a hx) (Y .picked s a hy)
+    anchor-anchor s t a l e e′ = same-pick (X .picked s a hx) (Y .picked s a hy)
       where
         hx : X .has a
         hx = X .leads t a e .0
@@ -295,11 +301,11 @@ module _ {n : ℕ} {step : StepRule} {W : World n step} {S : Slots} where
         hy : Y .has a
         hy = Y .leads t a e′ .0
 
-        go : Picked W S (X .has) s a (X .pick s a) → Picked W S (Y .has) s a (Y .pick s a) → X .pick s a ≡ Y .pick s a
-        go (chose b sb c q) (chose b′ sb′ c′ q′) = q ∙ ap committed (same-slot W sb sb′ (c .who, c .certifies) (c′ .who, c′ .certifies)) ∙ sym q′
-        go (chose b sb c q) (nobody none q′) = absurd (none b sb (has-certified Y a b hy c) c)
-        go (nobody none q) (chose b′ sb′ c′ q′) = absurd (none b′ sb′ (has-certified X a b′ hx c′) c′)
-        go (nobody none q) (nobody none′ q′) = q ∙ sym q′
+        same-pick : Picked W S (X .has) s a (X .pick s a) → Picked W S (Y .has) s a (Y .pick s a) → X .pick s a ≡ Y .pick s a
+        same-pick (chose b sb c q) (chose b′ sb′ c′ q′) = q ∙ ap committed (same-slot W sb sb′ (c .who, c .certifies) (c′ .who, c′ .certifies)) ∙ sym q′
+        same-pick (chose b sb c q) (nobody none q′) = absurd (none b sb (has-certified Y a b hy c) c)
+        same-pick (nobody none q) (chose b′ sb′ c′ q′) = absurd (none b′ sb′ (has-certified X a b′ hx c′) c′)
+        same-pick (nobody none q) (nobody none′ q′) = q ∙ sym q′
 
     pub fit : Fit (boxOf X) (boxOf Y)
     fit = record {

@@ -20,7 +20,8 @@ use Rattle.rules.specs.Settlement.{equivocators}
 pub record Premises (E : Edition) (n : ℕ) (t u : List ℕ) : Type 0 where
   pub one-passes : check E n t ≡ passed
   pub other-passes : check E n u ≡ passed
-  pub same-record : (p q : ℕ) → p < records E t → q < records E u → nameOf (at (vertices E t) p) ≡ nameOf (at (vertices E u) q) → recordAt E t p ≡ recordAt E u q
+  pub same-record : (p q : ℕ) → p < records E t → q < records E u
+      → nameOf (at (vertices E t) p) ≡ nameOf (at (vertices E u) q) → recordAt E t p ≡ recordAt E u q
   pub few : equivocators n (vertices E t ++ vertices E u) ≤ faults n
 
 -- xs is a beginning of ys.

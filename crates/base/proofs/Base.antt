@@ -18,6 +18,7 @@ use Rattle.rules.specs.Decide.{boxSetting}
 use Rattle.rules.specs.Order.{order}
 use Rattle.rules.specs.Settlement.{Buffers, tooShort, settled, settleIf, settle}
 use Rattle.rules.proofs.Refusals.{then-passed, when-no}
+use Rattle.rules.proofs.Order.{demand-2-order}
 use Rattle.rules.proofs.Examples.{examples}
 use Rattle.agreement.specs.Buffers.{SettledTo}
 use Rattle.agreement.proofs.Agreement.{demand-3}
@@ -81,6 +82,7 @@ base = record {
   calls = calls;
   refusals = refusals;
   settles = settles;
+  orders = demand-2-order;
   boxes-agree = demand-3;
   calls-agree = λ n t u P before before′ after after′ x y c d S e S′ e′. demand-3-in-buffers n t u before before′ c d after after′ P (settled-to n t before x after S c e) (settled-to n u before′ y after′ S′ d e′);
   one-result = settle-unique;

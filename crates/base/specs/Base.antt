@@ -19,6 +19,7 @@ use Rattle.rules.specs.Decision.{cell}
 use Rattle.rules.specs.Decide.{boxSetting, decisions}
 use Rattle.rules.specs.Order.{order}
 use Rattle.rules.specs.Settlement.{Buffers, lent, tooShort, countsOf, takenBytes, writtenOver}
+use Rattle.rules.specs.Written.{Demand2Order}
 use Rattle.rules.specs.Examples.{Hold}
 use Rattle.rules.proofs.Only.{Only}
 use Rattle.agreement.specs.Agreement.{Premises, Demand3}
@@ -69,6 +70,8 @@ pub record Base : Type 2 where
   -- demand 2
   pub settles : (n : ℕ) (t : List ℕ) (before : Buffers) (x : Settlement) (after : Buffers) → SettlesTo n t before x after
       → check first n t ≡ Passed → tooShort (boxSetting n) (vertices first t) before ≡ false → Settles n t before x after
+  -- with nothing missing and nothing twice; and what a history, the highest and the first undecided round are
+  pub orders : Demand2Order
   -- demand 3: of the rules, and of what two calls leave in their buffers
   pub boxes-agree : Demand3
   pub calls-agree : (n : ℕ) (t u : List ℕ) → Premises first n t u

@@ -43,7 +43,8 @@ is-slot S s v i = and-true _ _ (eq-eqb _ _ (i .at-round)) (eq-eqb _ _ (i .by-lea
 -- ---- the lowest mark
 
 -- of two vertices of one slot the later one has the higher mark
-slot-rises : {n : ℕ} {vs : List Vertex} → Accepted n vs → (S : Slots) (s p q : ℕ) → p < q → q < length vs → InSlot S s (at vs p) → InSlot S s (at vs q) → at vs p .mark < at vs q .mark
+slot-rises : {n : ℕ} {vs : List Vertex} → Accepted n vs → (S : Slots) (s p q : ℕ) → p < q → q < length vs
+    → InSlot S s (at vs p) → InSlot S s (at vs q) → at vs p .mark < at vs q .mark
 slot-rises A S s p q l lq i j = below-mark _ _ (rising A p q l lq) (i .at-round ∙ sym (j .at-round)) (i .by-leader ∙ sym (j .by-leader))
 
 module _ {n : ℕ} {vs : List Vertex} (A : Accepted n vs) (S : Slots) (s : ℕ) (ok : Vertex → Bool) where
@@ -93,6 +94,18 @@ choose-is {vs = vs} A S s ok d = rw (lowest-first A S s ok) (by-test (ltb m (len
     none : ltb m (length vs) ≡ false → Chosen S vs s ok d (cond (ltb m (length vs)) (committed m) d)
     none e = nobody (λ p l t. failed _ (λ h. not-both (and-true _ _ t h) (is .before p (omega (arith, ltb-false m (length vs) e))))) (rw e)
 
+-- who is chosen has the lowest mark of those that qualify
+chosen-lowest : {n : ℕ} {vs : List Vertex} → Accepted n vs → (S : Slots) (s : ℕ) (ok : Vertex → Bool) (p q : ℕ) → p < length vs → q < length vs
+    → inSlot S s (at vs p) ≡ true → inSlot S s (at vs q) ≡ true → ok (at vs q) ≡ true → ((i : ℕ) → i < p → qualifies S vs s ok i ≡ false)
+    → at vs p .mark ≤ at vs q .mark
+unfolding qualifies
+chosen-lowest {vs = vs} A S s ok p q lp lq ip iq oq first = ordered (compare p q)
+  where
+    ordered : (p < q) ⊎ ((p ≡ q) ⊎ (q < p)) → at vs p .mark ≤ at vs q .mark
+    ordered (inl h) = omega (arith, slot-rises A S s p q h lq (slot-is _ _ _ ip) (slot-is _ _ _ iq))
+    ordered (inr (inl e)) = omega (arith, ap (λ (k : ℕ). at vs k .mark) e)
+    ordered (inr (inr h)) = absurd (not-both (and-true _ _ iq oq) (first q h))
+
 -- ---- where the anchor search stops
 
 data Ahead (ds : List (Decision ℕ)) : Type 0 where
@@ -104,15 +117,15 @@ unfolding anchor
 ahead [] = stops-open zero (λ u l. absurd (not-suc-le-zero l)) refl refl
 ahead (undecided ∷ ds) = stops-open zero (λ u l. absurd (not-suc-le-zero l)) refl refl
 ahead (committed a ∷ ds) = stops-at zero a (λ u l. absurd (not-suc-le-zero l)) refl refl
-ahead (skipped ∷ ds) = go (ahead ds)
+ahead (skipped ∷ ds) = one-further (ahead ds)
   where
     more : (t : ℕ) → ((u : ℕ) → u < t → decisionAt ds u ≡ skipped) → (u : ℕ) → u < suc t → decisionAt (skipped ∷ ds) u ≡ skipped
     more t f zero l = refl
     more t f (suc u) l = f u (le-of-suc-le-suc l)
 
-    go : Ahead ds → Ahead (skipped ∷ ds)
-    go (stops-open t f e k) = stops-open (suc t) (more t f) e k
-    go (stops-at t a f e k) = stops-at (suc t) a (more t f) e k
+    one-further : Ahead ds → Ahead (skipped ∷ ds)
+    one-further (stops-open t f e k) = stops-open (suc t) (more t f) e k
+    one-further (stops-at t a f e k) = stops-at (suc t) a (more t f) e k
 
 -- from slot k on: it stops at t, all between are skipped, and t is undecided or has the anchor
 pub data Anchored (ds : List (Decision ℕ)) (k : ℕ) : Type 0 where
@@ -122,7 +135,7 @@ pub data Anchored (ds : List (Decision ℕ)) (k : ℕ) : Type 0 where
       → Anchored ds k
 
 pub anchored-is : (ds : List (Decision ℕ)) (k : ℕ) → Anchored ds k
-anchored-is ds k = go (ahead (drop k ds))
+anchored-is ds k = from-slot (ahead (drop k ds))
   where
     is : (u : ℕ) → k ≤ u → k + (u - k) ≡ u
     is u l = omega arith
@@ -130,9 +143,9 @@ anchored-is ds k = go (ahead (drop k ds))
     shift : (t : ℕ) → ((u : ℕ) → u < t → decisionAt (drop k ds) u ≡ skipped) → (u : ℕ) → k ≤ u → u < k + t → decisionAt ds u ≡ skipped
     shift t f u l h = rw (← is u l) (rw getD-drop at (f (u - k) (omega arith)))
 
-    go : Ahead (drop k ds) → Anchored ds k
-    go (stops-open t f e q) = no-anchor (k + t) (omega arith) (shift t f) (rw getD-drop at e) q
-    go (stops-at t a f e q) = anchored (k + t) a (omega arith) (shift t f) (rw getD-drop at e) q
+    from-slot : Ahead (drop k ds) → Anchored ds k
+    from-slot (stops-open t f e q) = no-anchor (k + t) (omega arith) (shift t f) (rw getD-drop at e) q
+    from-slot (stops-at t a f e q) = anchored (k + t) a (omega arith) (shift t f) (rw getD-drop at e) q
 
 -- ---- the list of decisions
 
@@ -167,22 +180,43 @@ decisions-past C n vs s h = List·getD-eq-default (decisions C n vs) undecided (
 
 -- ---- why a slot is decided so
 
+-- no vertex of the slot is committed directly
+abbrev pub NoCommit : Setting → ℕ → List Vertex → ℕ → Type 0
+NoCommit C n vs s = (p : ℕ) → p < length vs → inSlot (C .slots) s (at vs p) ≡ true → directCommit n vs (at vs p) ≡ false
+
+-- whether the slot is skipped directly
+abbrev pub directSkipOf : Setting → ℕ → List Vertex → ℕ → Bool
+directSkipOf C n vs s = C .skip n vs (C .slots .roundOf s) (C .slots .leaderOf s)
+
+-- neither direct rule applies
+pub record Neither (C : Setting) (n : ℕ) (vs : List Vertex) (s : ℕ) : Type 0 where
+  pub no-commit : NoCommit C n vs s
+  pub no-skip : directSkipOf C n vs s ≡ false
+
+-- from the start of the search of s up to t every slot is skipped
+abbrev pub SkippedUpTo : Setting → ℕ → List Vertex → ℕ → ℕ → Type 0
+SkippedUpTo C n vs s t = (u : ℕ) → C .slots .start s ≤ u → u < t → decisionAt (decisions C n vs) u ≡ skipped
+
 pub data Because (C : Setting) (n : ℕ) (vs : List Vertex) (s : ℕ) (d : Decision ℕ) : Type 0 where
-  -- direct commit
-  direct : (p : ℕ) → p < length vs → inSlot (C .slots) s (at vs p) ≡ true → directCommit n vs (at vs p) ≡ true → d ≡ committed p → Because C n vs s d
-  -- direct skip
-  skips : C .skip n vs (C .slots .roundOf s) (C .slots .leaderOf s) ≡ true → d ≡ skipped → Because C n vs s d
-  -- indirect: the search stops at slot t, whose vertex a is the anchor
-  through : (t a : ℕ) → C .slots .start s ≤ t → ((u : ℕ) → C .slots .start s ≤ u → u < t → decisionAt (decisions C n vs) u ≡ skipped)
+  -- direct commit: if several qualify, the lowest mark
+  direct : (p : ℕ) → p < length vs → inSlot (C .slots) s (at vs p) ≡ true → directCommit n vs (at vs p) ≡ true
+      → ((q : ℕ) → q < length vs → inSlot (C .slots) s (at vs q) ≡ true → directCommit n vs (at vs q) ≡ true → at vs p .mark ≤ at vs q .mark)
+      → d ≡ committed p → Because C n vs s d
+  -- direct skip, tried only if no commit
+  skips : NoCommit C n vs s → directSkipOf C n vs s ≡ true → d ≡ skipped → Because C n vs s d
+  -- indirect, tried only if neither: the search stops at slot t, whose vertex a is the anchor
+  through : Neither C n vs s → (t a : ℕ) → C .slots .start s ≤ t → SkippedUpTo C n vs s t
       → decisionAt (decisions C n vs) t ≡ committed a → d ≡ throughAnchor C n vs s a → Because C n vs s d
-  -- indirect: it stops at slot t, which is undecided or past the highest round
-  blocked : (t : ℕ) → C .slots .start s ≤ t → ((u : ℕ) → C .slots .start s ≤ u → u < t → decisionAt (decisions C n vs) u ≡ skipped)
+  -- indirect, tried only if neither: it stops at slot t, which is undecided or past the highest round
+  blocked : Neither C n vs s → (t : ℕ) → C .slots .start s ≤ t → SkippedUpTo C n vs s t
       → decisionAt (decisions C n vs) t ≡ undecided → d ≡ undecided → Because C n vs s d
+  -- nothing is tried of a slot past the highest round
+  past : C .slots .upTo (highest vs) ≤ s → d ≡ undecided → Because C n vs s d
 
 module _ (C : Setting) (later : (s : ℕ) → s < C .slots .start s) {n : ℕ} {vs : List Vertex} (A : Accepted n vs) where
   decide-because : (s : ℕ) → Because C n vs s (decide C n vs s (drop (suc s) (decisions C n vs)))
   unfolding decide indirect
-  decide-because s = go (choose-is A (C .slots) s (directCommit n vs) other)
+  decide-because s = by-choice (choose-is A (C .slots) s (directCommit n vs) other)
     where
       ds : List (Decision ℕ)
       ds = decisions C n vs
@@ -194,34 +228,39 @@ module _ (C : Setting) (later : (s : ℕ) → s < C .slots .start s) {n : ℕ} {
       search = anchor (drop (k - suc s) (drop (suc s) ds))
 
       other : Decision ℕ
-      other = cond (C .skip n vs (C .slots .roundOf s) (C .slots .leaderOf s)) skipped (indirect C n vs s search)
+      other = cond (directSkipOf C n vs s) skipped (indirect C n vs s search)
 
       from-start : drop (k - suc s) (drop (suc s) ds) ≡ drop k ds
       from-start = let e : suc s + (k - suc s) ≡ k = omega (arith, later s) in drop-drop (k - suc s) (suc s) ds ∙ ap (λ (j : ℕ). drop j ds) e
 
-      by-search : (d : Decision ℕ) → d ≡ indirect C n vs s search → Anchored ds k → Because C n vs s d
-      by-search d e (no-anchor t l f g q) = blocked t l f g (e ∙ ap (indirect C n vs s) (ap anchor from-start ∙ q))
-      by-search d e (anchored t a l f g q) = through t a l f g (e ∙ ap (indirect C n vs s) (ap anchor from-start ∙ q))
+      by-search : (d : Decision ℕ) → Neither C n vs s → d ≡ indirect C n vs s search → Anchored ds k → Because C n vs s d
+      by-search d none e (no-anchor t l f g q) = blocked none t l f g (e ∙ ap (indirect C n vs s) (ap anchor from-start ∙ q))
+      by-search d none e (anchored t a l f g q) = through none t a l f g (e ∙ ap (indirect C n vs s) (ap anchor from-start ∙ q))
 
-      go : {d : Decision ℕ} → Chosen (C .slots) vs s (directCommit n vs) other d → Because C n vs s d
-      go (chosen p l i c b e) = direct p l i c e
-      go {d} (nobody none e) =
-          by-test (C .skip n vs (C .slots .roundOf s) (C .slots .leaderOf s)) (λ t. skips t (e ∙ rw t)) (λ t. by-search d (e ∙ rw t) (anchored-is ds k))
+      by-choice : {d : Decision ℕ} → Chosen (C .slots) vs s (directCommit n vs) other d → Because C n vs s d
+      by-choice (chosen p l i c b e) = direct p l i c (λ q lq iq cq. chosen-lowest A (C .slots) s (directCommit n vs) p q l lq i iq cq b) e
+      by-choice {d} (nobody none e) =
+          by-test
+          (directSkipOf C n vs s)
+          (λ t. skips none t (e ∙ rw t))
+          (λ t. by-search d (record { no-commit = none; no-skip = t }) (e ∙ rw t) (anchored-is ds k))
 
   pub because : (s : ℕ) → Because C n vs s (decisionAt (decisions C n vs) s)
   because s =
-      by-test (ltb s (C .slots .upTo (highest vs))) (λ e. rw (decisions-at C n vs s (ltb-true _ _ e)) (decide-because s)) (λ e. out (ltb-false _ _ e))
-    where
-      k : ℕ
-      k = C .slots .start s
+      by-test
+      (ltb s (C .slots .upTo (highest vs)))
+      (λ e. rw (decisions-at C n vs s (ltb-true _ _ e)) (decide-because s))
+      (λ e. past (ltb-false _ _ e) (decisions-past C n vs s (ltb-false _ _ e)))
 
-      out : C .slots .upTo (highest vs) ≤ s → Because C n vs s (decisionAt (decisions C n vs) s)
-      out h = blocked k (le-refl k) (λ u l l′. absurd (not-le-of-lt l′ l)) (decisions-past C n vs k (omega (arith, later s))) (decisions-past C n vs s h)
+  -- the search of a slot past the highest round would stop where it starts
+  pub past-stops : (s : ℕ) → C .slots .upTo (highest vs) ≤ s
+      → SkippedUpTo C n vs s (C .slots .start s) × (decisionAt (decisions C n vs) (C .slots .start s) ≡ undecided)
+  past-stops s h = (λ u l l′. absurd (not-le-of-lt l′ l), decisions-past C n vs (C .slots .start s) (omega (arith, later s)))
 
   -- a committed slot is committed with a vertex of the slot
   pub leads : (t p : ℕ) → decisionAt (decisions C n vs) t ≡ committed p → (p < length vs) × (inSlot (C .slots) t (at vs p) ≡ true)
   unfolding throughAnchor
-  leads t p e = go (because t)
+  leads t p e = led (because t)
     where
       Goal : ℕ → Type 0
       Goal p = (p < length vs) × (inSlot (C .slots) t (at vs p) ≡ true)
@@ -230,8 +269,9 @@ module _ (C : Setting) (later : (s : ℕ) → s < C .slots .start s) {n : ℕ} {
       choice (chosen q l i c b k) e′ = subst Goal (committed-same k e′) (l, i)
       choice (nobody none k) e′ = absurd (skipped-apart e′ k)
 
-      go : Because C n vs t (decisionAt (decisions C n vs) t) → Goal p
-      go (direct q l i c k) = subst Goal (committed-same k e) (l, i)
-      go (skips b k) = absurd (skipped-apart e k)
-      go (through u a l f g k) = choice (choose-is A (C .slots) t (certifiedIn n vs (history (C .step) vs a)) skipped) (sym k ∙ e)
-      go (blocked u l f g k) = absurd (committed-decided e k)
+      led : Because C n vs t (decisionAt (decisions C n vs) t) → Goal p
+      led (direct q l i c m k) = subst Goal (committed-same k e) (l, i)
+      led (skips none b k) = absurd (skipped-apart e k)
+      led (through none u a l f g k) = choice (choose-is A (C .slots) t (certifiedIn n vs (history (C .step) vs a)) skipped) (sym k ∙ e)
+      led (blocked none u l f g k) = absurd (committed-decided e k)
+      led (past h k) = absurd (committed-decided e k)

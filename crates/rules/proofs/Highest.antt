@@ -24,7 +24,7 @@ use Rattle.rules.proofs.Names.{below-round}
 use Rattle.rules.proofs.Accepted.{Accepted, rising, round-pos}
 use Rattle.rules.proofs.Support.{Has, blank-is, certifies-is, commit-is, skip-is}
 use Rattle.rules.proofs.Decisions.{committed-decided, skipped-decided, skipped-apart}
-use Rattle.rules.proofs.Decide.{slot-is, Because, direct, skips, through, blocked, because, decisions-past, decisions-length}
+use Rattle.rules.proofs.Decide.{slot-is, Because, direct, skips, through, blocked, past, because, decisions-past, decisions-length}
 
 -- document 01's search starts after the slot
 pub one-later : (n s : ℕ) → s < oneLeader n .start s
@@ -63,30 +63,33 @@ module _ {n : ℕ} {vs : List Vertex} (A : Accepted n vs) where
   committed-up s p e = go (because (boxSetting n) (one-later n) A s)
     where
       go : Because (boxSetting n) n vs s (decisionAt rounds s) → s + 3 ≤ highest vs
-      go (direct q l i c k) = omega (arith, commit-up (at vs q) c, slot-is (oneLeader n) s (at vs q) i .at-round)
-      go (skips b k) = absurd (skipped-apart e k)
-      go (blocked t l f g k) = absurd (committed-decided e k)
-      go (through t a l f g k) = by-test (leb (highest vs) t) (λ h. absurd (committed-decided g (decisions-past (boxSetting n) n vs t (leb-true _ _ h)))) (λ h. omega (arith, leb-false (highest vs) t h))
+      go (direct q l i c m k) = omega (arith, commit-up (at vs q) c, slot-is (oneLeader n) s (at vs q) i .at-round)
+      go (skips none b k) = absurd (skipped-apart e k)
+      go (blocked none t l f g k) = absurd (committed-decided e k)
+      go (past h k) = absurd (committed-decided e k)
+      go (through none t a l f g k) = by-test (leb (highest vs) t) (λ h. absurd (committed-decided g (decisions-past (boxSetting n) n vs t (leb-true _ _ h)))) (λ h. omega (arith, leb-false (highest vs) t h))
 
   -- a round that is decided has records one round up
   pub decided-up : (s : ℕ) → (decisionAt rounds s ≡ undecided → ⊥) → s + 2 ≤ highest vs
   decided-up s h = go (because (boxSetting n) (one-later n) A s)
     where
       go : Because (boxSetting n) n vs s (decisionAt rounds s) → s + 2 ≤ highest vs
-      go (direct q l i c k) = omega (arith, committed-up s q k)
-      go (skips b k) = omega (arith, skip-up (s + 1) _ b)
-      go (blocked t l f g k) = absurd (h k)
-      go (through t a l f g k) = omega (arith, committed-up t a g)
+      go (direct q l i c m k) = omega (arith, committed-up s q k)
+      go (skips none b k) = omega (arith, skip-up (s + 1) _ b)
+      go (blocked none t l f g k) = absurd (h k)
+      go (past o k) = absurd (h k)
+      go (through none t a l f g k) = omega (arith, committed-up t a g)
 
   -- the highest round is never decided
   pub highest-undecided : 0 < length vs → decisionAt rounds (highest vs - 1) ≡ undecided
   highest-undecided h = open-or (because (boxSetting n) (one-later n) A (highest vs - 1)) refl
     where
       open-or : {d : Decision ℕ} → Because (boxSetting n) n vs (highest vs - 1) d → d ≡ decisionAt rounds (highest vs - 1) → d ≡ undecided
-      open-or (blocked t l f g k) e = k
-      open-or (direct q l i c k) e = absurd (omega (arith, highest-pos h, decided-up (highest vs - 1) (λ z. committed-decided k (e ∙ z))))
-      open-or (skips b k) e = absurd (omega (arith, highest-pos h, decided-up (highest vs - 1) (λ z. skipped-decided k (e ∙ z))))
-      open-or (through t a l f g k) e = absurd (omega (arith, highest-pos h, committed-up t a g))
+      open-or (blocked none t l f g k) e = k
+      open-or (past o k) e = k
+      open-or (direct q l i c m k) e = absurd (omega (arith, highest-pos h, decided-up (highest vs - 1) (λ z. committed-decided k (e ∙ z))))
+      open-or (skips none b k) e = absurd (omega (arith, highest-pos h, decided-up (highest vs - 1) (λ z. skipped-decided k (e ∙ z))))
+      open-or (through none t a l f g k) e = absurd (omega (arith, highest-pos h, committed-up t a g))
 
   -- the round below it is never committed
   pub next-uncommitted : (p : ℕ) → 1 < highest vs → decisionAt rounds (highest vs - 2) ≡ committed p → ⊥

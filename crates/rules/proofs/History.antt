@@ -14,9 +14,10 @@ use Rattle.folds.proofs.Tests.{and-left, and-right, and-true}
 use Rattle.folds.proofs.Laws.{any-witness, any-intro}
 use Rattle.rules.specs.declared.Name.{Name}
 use Rattle.rules.specs.declared.Vertex.{Vertex}
-use Rattle.rules.specs.Record.{at, nameOf, find, vertexOf}
+use Rattle.rules.specs.Record.{at, nameOf, find}
 use Rattle.rules.specs.Support.{references}
 use Rattle.rules.specs.History.{Reaches, itself, onward, StepRule, sweep, history}
+use Rattle.rules.specs.Written.{StepIn}
 use Rattle.rules.proofs.Records.{find-name}
 use Rattle.rules.proofs.Accepted.{Accepted, find-at, vertexOf-at}
 use Rattle.rules.proofs.Support.{references-earlier}
@@ -129,20 +130,22 @@ module _ {n : ℕ} {vs : List Vertex} {step : StepRule} {Step : Name → Name �
   pub history-complete : (a q : ℕ) → a < length vs → q ≤ a → ReachesAt a q → getD (history step vs a) q false ≡ true
   history-complete a q l h r = let t = history-true a l in t .complete q (omega (arith, t .spans)) (rw (zero-add q) r)
 
--- ---- document 01's step: one vertex of the table references another
-
--- the vertex of the name x in the table references y
-abbrev pub ReferencesIn : List Vertex → Name → Name → Type 0
-ReferencesIn vs x y = references (vertexOf vs x) y ≡ true
+-- ---- the steps of the table's own vertices
 
 module _ {n : ℕ} {vs : List Vertex} (A : Accepted n vs) where
-  follows : Follows references vs (ReferencesIn vs)
-  follows = record {
+  pub follows : (step : StepRule) → Follows step vs (StepIn step vs)
+  follows step = record {
     to = λ q y l e. rw (vertexOf-at A q l) e;
     fro = λ q y l e. rw (vertexOf-at A q l) at e;
   }
 
+-- document 01's step: the vertex of the name x in the table references y
+abbrev pub ReferencesIn : List Vertex → Name → Name → Type 0
+ReferencesIn vs x y = StepIn references vs x y
+
+module _ {n : ℕ} {vs : List Vertex} (A : Accepted n vs) where
   -- A vertex is in the computed history of the vertex at a exactly when it is that vertex or reached from it by references.
   pub history-is : (a q : ℕ) → a < length vs → q ≤ a
       → (getD (history references vs a) q false ≡ true) ↔ Reaches (ReferencesIn vs) (nameOf (at vs a)) (nameOf (at vs q))
-  history-is a q l h = (history-sound A (references-earlier A) follows a q l h, history-complete A (references-earlier A) follows a q l h)
+  history-is a q l h =
+      (history-sound A (references-earlier A) (follows A references) a q l h, history-complete A (references-earlier A) (follows A references) a q l h)

@@ -8,5 +8,8 @@ pub mod Decisions
 pub mod Decide
 pub mod Highest
 pub mod Cells
+pub mod Places
+pub mod Order
 pub mod Examples
+pub mod PastF
 pub mod Only

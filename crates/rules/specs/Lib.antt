@@ -8,8 +8,10 @@ pub mod Support
 pub mod History
 pub mod Decide
 pub mod Order
+pub mod Written
 pub mod Settlement
 pub mod Program
 pub mod Open
 pub mod Tables
 pub mod Examples
+pub mod PastF

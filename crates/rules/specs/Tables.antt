@@ -34,6 +34,11 @@ unfoldable pub v : (round author : ℕ) → List ℕ → List ℕ
 unfolding unsummed summed
 v r a es = summed 0 (unsummed r a 1 0 0 es)
 
+-- the same with mark 2
+unfoldable pub mark2 : (round author : ℕ) → List ℕ → List ℕ
+unfolding unsummed summed
+mark2 r a es = summed 0 (unsummed r a 2 0 0 es)
+
 -- ---- rounds
 
 abbrev pub all : List ℕ
@@ -41,6 +46,9 @@ all = 1 ∷ 1 ∷ 1 ∷ 1 ∷ []
 
 abbrev pub not0 : List ℕ
 not0 = 0 ∷ 1 ∷ 1 ∷ 1 ∷ []
+
+abbrev pub not3 : List ℕ
+not3 = 1 ∷ 1 ∷ 1 ∷ []
 
 -- four authors, each referencing all four; in round 1, nothing
 unfoldable pub full1 : List ℕ

@@ -5,7 +5,7 @@ use Rattle.exports.proofs.refusal_as.Statement.{statement}
 use Rattle.exports.proofs.refusal_as.Tie as tie
 
 returns : tie.Need-returns
-returns c = ?
+returns c = rw (c .number-of .ensures)
 
 pub refusal-as-spec : {M : Type 1} → statement M
 refusal-as-spec = tie.close (tie.spec

@@ -15,7 +15,7 @@ mul-t10 c =
     let a = s .before .before .args in
     let e = ap standingTells (sym (c .before .s .given .1)) ∙ s .stands-at .ensures in
     let w = within (a .n) (a .table .now) (named (a .round) (a .author) (a .mark)) _ e in
-    ?fits
+    search needs
 
 returns : tie.Need-returns
 returns c =

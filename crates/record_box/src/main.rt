@@ -2,9 +2,10 @@
 // Reading and writing stand here alone. What is answered and what is printed is promised below and in the libraries.
 ghost use mathlib.Core.Path.{_≡_};
 ghost use Prim.Native.Nat.{_≤_};
-ghost use lib.ListN.{length, drop};
+ghost use lib.ListN.{length, take, drop};
 ghost use Rattle.io.specs.Counts.{Counts};
 ghost use Rattle.rules.specs.Settlement.{lent};
+ghost use Rattle.rules.specs.Program.{printed};
 ghost use Rattle.record_box.specs.Answer.{Answers};
 use libc::STDERR_FILENO;
 use libc::STDIN_FILENO;
@@ -92,27 +93,30 @@ fn read_whole(fd: i32, buf: &mut [u8]) -> Input
     }
 }
 
-// Every line in turn, up to the first that cannot be written.
-fn print(s: Settlement, table: &[u8], cells: &[u32], order: &[u32]) -> bool {
-    let lines = report::output_lines(s);
-    let mut i: usize = 0;
-    while i < lines {
-        let mut line = [0u8; 112];
-        let k = report::output_line(s, table, cells, order, i, &mut line);
-        if !io::write_all(STDOUT_FILENO, &line[..k]) {
-            return false;
-        }
-        i += 1;
-    }
-    true
+// 112 bytes for each line that there can be: the counts, 474 rounds and 474 written vertices.
+fn blank_page() -> [u8; 106288]
+    ensures { λ r. ⌜ 106288 ≡ length r ⌝ }
+{
+    [0; 106288]
 }
 
-fn settle(input: &[u8]) {
+// All that is printed for an input.
+fn respond(input: &[u8], out: &mut [u8]) -> usize
+    requires { ⌜ 106288 ≤ length (now out) ⌝ }
+    ensures { λ r. ⌜ take r (now (out .exit)) ≡ printed (now (input .entry)) ⌝ }
+    ensures { λ r. ⌜ Counts r (now (out .exit)) ⌝ }
+{
     let mut cells = places();
     let mut order = places();
     let mut taken = taken_bytes();
     let s = answer(input, &mut cells, &mut order, &mut taken);
-    if !print(s, table_of(input), &cells, &order) {
+    page::output_page(s, table_of(input), &cells, &order, out)
+}
+
+fn print(input: &[u8]) {
+    let mut out = blank_page();
+    let k = respond(input, &mut out);
+    if !io::write_all(STDOUT_FILENO, &out[..k]) {
         io::write_all(STDERR_FILENO, b"record_box: writing failed\n");
     }
 }
@@ -123,7 +127,7 @@ fn main() {
     let got = read_whole(STDIN_FILENO, &mut input);
     let k = got.length;
     if got.whole {
-        settle(&input[..k]);
+        print(&input[..k]);
     } else {
         io::write_all(STDERR_FILENO, b"record_box: reading failed\n");
     }

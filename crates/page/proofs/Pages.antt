@@ -2,7 +2,7 @@
 -- Assumes nothing.
 use Prim.Native.Nat.{ℕ, zero, suc, _+_, _-_, _*_, _≤_}
 use mathlib.Core.Path.{_≡_, refl, sym, ap, _∙_}
-use mathlib.Core.Bool.{true, false, cond}
+use mathlib.Core.Bool.{Bool, true, false, cond}
 use mathlib.Core.List.{List, [], _++_, append-assoc, append-nil}
 use native.Mathlib.Numerals.{add-one}
 use native.Mathlib.Omega.{arith}
@@ -18,26 +18,20 @@ use Rattle.record.proofs.Laws.{part-rest}
 use Rattle.report.specs.Output.{joined}
 use Rattle.page.specs.Page.{fitted, Page}
 
--- One line more, in what is left of the room.
-grown : (w g old part : List ℕ) (r : ℕ) → Fills g (drop (length w) old) part r
-    → (r ≡ length (cond (leb (length g) (length old - length w)) g [])) × (w ++ part ≡ writtenOver (w ++ cond (leb (length g) (length old - length w)) g []) old)
-grown w g old part r q = by-test (leb (length g) (length old - length w)) fits too-long
-  where
-    fits : leb (length g) (length old - length w) ≡ true
-        → (r ≡ length (cond (leb (length g) (length old - length w)) g [])) × (w ++ part ≡ writtenOver (w ++ cond (leb (length g) (length old - length w)) g []) old)
-    fits e =
-        let d : leb (length g) (length (drop (length w) old)) ≡ true = rw length-drop e in
-        let b : part ≡ g ++ drop (length g) (drop (length w) old) = rw d at (q .buffer) in
-        let a : r ≡ length g = rw d at (q .answer) in
-        rw e (a, rw (b, drop-drop, length-append) (sym (append-assoc w g (drop (length w + length g) old))))
+-- One line more, in what is left of the room, and none where that is too short.
+abbrev Grows : (w g old part : List ℕ) → ℕ → Bool → Type 0
+Grows w g old part r b = (r ≡ length (cond b g [])) × (w ++ part ≡ writtenOver (w ++ cond b g []) old)
 
-    too-long : leb (length g) (length old - length w) ≡ false
-        → (r ≡ length (cond (leb (length g) (length old - length w)) g [])) × (w ++ part ≡ writtenOver (w ++ cond (leb (length g) (length old - length w)) g []) old)
-    too-long e =
-        let d : leb (length g) (length (drop (length w) old)) ≡ false = rw length-drop e in
-        let b : part ≡ drop (length w) old = rw d at (q .buffer) in
-        let a : r ≡ 0 = rw d at (q .answer) in
-        rw e (a, rw (b, append-nil w))
+grown : (w g old part : List ℕ) (r : ℕ) → Fills g (drop (length w) old) part r → Grows w g old part r (leb (length g) (length old - length w))
+grown w g old part r q = cases (leb (length g) (length old - length w)) (rw length-drop)
+  where
+    cases : (b : Bool) → leb (length g) (length (drop (length w) old)) ≡ b → Grows w g old part r b
+    cases true d =
+        let e : part ≡ g ++ drop (length g) (drop (length w) old) = rw d at (q .buffer) in
+        (rw d at (q .answer), rw (e, drop-drop, length-append) (sym (append-assoc w g (drop (length w + length g) old))))
+    cases false d =
+        let e : part ≡ drop (length w) old = rw d at (q .buffer) in
+        (rw d at (q .answer), rw (e, append-nil w))
 
 -- at most 112 bytes come
 few : {g old new : List ℕ} {r : ℕ} → Fills g old new r → r ≤ 112
@@ -46,7 +40,8 @@ few {g} {old} {new} {r} q =
     (λ e. let a : r ≡ length g = rw e at (q .answer) in omega (arith, q .short))
     (λ e. let a : r ≡ 0 = rw e at (q .answer) in omega arith)
 
-fitted-more : (f : ℕ → List ℕ) (room i : ℕ) → fitted f room (suc i) ≡ fitted f room i ++ cond (leb (length (f i)) (room - length (fitted f room i))) (f i) []
+fitted-more : (f : ℕ → List ℕ) (room i : ℕ)
+    → fitted f room (suc i) ≡ fitted f room i ++ cond (leb (length (f i)) (room - length (fitted f room i))) (f i) []
 unfolding fitted
 fitted-more f room i = refl
 

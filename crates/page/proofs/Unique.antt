@@ -7,5 +7,6 @@ use Rattle.rules.proofs.Only.{Only}
 use Rattle.page.proofs.output_page.Kinds as output-page-kinds
 use Rattle.page.proofs.output_page.Reads as output-page
 
-pub output-page-unique : Only 4 output-page-kinds.ps output-page-kinds.r (λ κs x e y f. (x ≡ y) × (now (e .1 .1 .1 .1 .0) ≡ now (f .1 .1 .1 .1 .0))) output-page.Post
+pub output-page-unique : Only 4 output-page-kinds.ps output-page-kinds.r
+    (λ κs x e y f. (x ≡ y) × (now (e .1 .1 .1 .1 .0) ≡ now (f .1 .1 .1 .1 .0))) output-page.Post
 output-page-unique κs a x y e f p q = (p .0 .answer ∙ sym (q .0 .answer), p .0 .buffer ∙ sym (q .0 .buffer))

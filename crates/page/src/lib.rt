@@ -1,8 +1,6 @@
 // All that the program prints, in one lent buffer.
-ghost use Prim.Native.Nat.{min};
 ghost use Rattle.io.specs.Counts.{Counts};
-ghost use Rattle.report.specs.Output.{outputLine, outputLines};
-ghost use Rattle.page.specs.Page.{Page};
+ghost use Rattle.page.specs.Page.{OutputPage};
 use rules::Settlement;
 
 // Each line in turn, after the ones before it. A line for which there is no room is left out; 112 bytes for each line are room enough.
@@ -13,7 +11,7 @@ pub fn output_page(
     order: &[u32],
     out: &mut [u8],
 ) -> usize
-    ensures { λ r. ⌜ Page (outputLine (s .outcome) (now (table .entry)) (now (cells .entry)) (now (order .entry))) (now (out .entry)) (min (outputLines (s .outcome)) 18446744073709551615) (now (out .exit)) r ⌝ }
+    ensures { λ r. ⌜ OutputPage (s .outcome) (now (table .entry)) (now (cells .entry)) (now (order .entry)) (now (out .entry)) (now (out .exit)) r ⌝ }
     ensures { λ r. ⌜ Counts r (now (out .exit)) ⌝ }
 {
     let lines = report::output_lines(s);

@@ -17,7 +17,7 @@ use Rattle.rules.specs.Settlement.{Buffers, writtenOver, countsOf, settled, set
 use Rattle.rules.specs.Program.{printed}
 use Rattle.rules.proofs.Decide.{decisions-length}
 use Rattle.report.specs.Output.{outputLine, outputLines, output}
-use Rattle.page.specs.Page.{fitted, Page}
+use Rattle.page.specs.Page.{fitted, Page, OutputPage}
 use Rattle.record_box.specs.Answer.{authorsIn, tableIn, checked, answered, Answers}
 use Rattle.record_box.proofs.Rounds.{Held}
 use Rattle.record_box.proofs.Prints.{prints}
@@ -41,13 +41,17 @@ few Passed n t b p q =
     let c : length ds ≤ 474 = rw length-map at (over-short (map cell ds) (b .cells) 474 p) in
     omega (arith, c, decisions-length (boxSetting n) n (vertices first t), over-short ps (b .order) 474 q)
 
-module _ (input : List ℕ) (b a : Buffers) (s : Settlement) (A : Answers input b s a) (held : Held b) (cells : length (a .cells) ≡ 474) (order : length (a .order) ≡ 474) where
+module _ (input : List ℕ) (b a : Buffers) (s : Settlement) (A : Answers input b s a) (held : Held b)
+    (cells : length (a .cells) ≡ 474) (order : length (a .order) ≡ 474) where
   lines-few : outputLines (s .outcome) ≤ 949
   unfolding answered
-  lines-few = rw (A .outcome) (few (checked input b) (authorsIn input) (tableIn input) b (ap length (sym (A .cells)) ∙ cells) (ap length (sym (A .order)) ∙ order))
+  lines-few =
+      let c = ap length (sym (A .cells)) ∙ cells in
+      let o = ap length (sym (A .order)) ∙ order in
+      rw (A .outcome) (few (checked input b) (authorsIn input) (tableIn input) b c o)
 
   pub responds : (t old new : List ℕ) (r : ℕ) → t ≡ tableIn input → 106288 ≤ length old
-      → Page (outputLine (s .outcome) t (a .cells) (a .order)) old (min (outputLines (s .outcome)) 18446744073709551615) new r
+      → OutputPage (s .outcome) t (a .cells) (a .order) old new r
       → take r new ≡ printed input
   unfolding output
   responds t old new r e room p =

@@ -1,5 +1,5 @@
 // The program of document 01: n and a table from standard input, and to standard output what the settlement says of them, line by line.
-// Reading and writing stand here alone. What is answered and what is printed is promised below and in the libraries.
+// Reading and writing stand here alone: `respond` promises all that is printed for what was read.
 ghost use mathlib.Core.Path.{_≡_};
 ghost use Prim.Native.Nat.{_≤_};
 ghost use lib.ListN.{length, take, drop};
@@ -100,7 +100,7 @@ fn blank_page() -> [u8; 106288]
     [0; 106288]
 }
 
-// All that is printed for an input.
+// All that is printed for an input, with room for it.
 fn respond(input: &[u8], out: &mut [u8]) -> usize
     requires { ⌜ 106288 ≤ length (now out) ⌝ }
     ensures { λ r. ⌜ take r (now (out .exit)) ≡ printed (now (input .entry)) ⌝ }

@@ -13,7 +13,8 @@ use Rattle.page.proofs.output_page.Statement.{statement}
 use Rattle.page.proofs.output_page.Tie as tie
 
 abbrev Inv-loop : tie.InvT-loop
-Inv-loop s table cells order out₀ lines done₀ i₀ out done i = Page (outputLine (s .outcome) table cells order) out₀ i out done × (length out ≡ length out₀) × (done ≤ length out) × (i ≤ lines)
+Inv-loop s table cells order out₀ lines done₀ i₀ out done i =
+    Page (outputLine (s .outcome) table cells order) out₀ i out done × (length out ≡ length out₀) × (done ≤ length out) × (i ≤ lines)
 
 abbrev μ-loop : tie.MeasureT-loop
 μ-loop s table cells order out₀ lines done₀ i₀ out done i = lines - i

@@ -20,7 +20,8 @@ returns c =
       order = omega (arith, k .before .places2 .ensures);
       taken = omega (arith, k .taken-bytes .ensures);
     } in (
-      responds _ b _ (a .answer .result) (a .answer .ensures) held (search needs) (search needs) _ _ _ _ (t .table-of .ensures) (search needs) (d .output-page .ensures .0),
+      responds _ b _ (a .answer .result) (a .answer .ensures) held (search needs) (search needs)
+          _ _ _ _ (t .table-of .ensures) (search needs) (d .output-page .ensures .0),
       d .output-page .ensures .1,
     )
 

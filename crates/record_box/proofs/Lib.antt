@@ -1,3 +1,4 @@
 pub mod Rounds
 pub mod Answered
 pub mod Prints
+pub mod Responds

@@ -33,8 +33,9 @@ struct Run {
     times: usize,
 }
 
-// 4,097 records and what stands around them fit. The contract gives only the length, so that no proof has the contents before it.
-fn input_buffer() -> [u8; 566000]
+// 4,097 records and what stands around them fit, and all that is printed of them. The contract gives only the length, so that no proof has
+// the contents before it.
+fn buffer() -> [u8; 566000]
     ensures { λ r. ⌜ 566000 ≡ length r ⌝ }
 {
     [0; 566000]
@@ -179,22 +180,17 @@ fn say_taken(b: &[u8]) {
     say(b"\n");
 }
 
-// Every line that the program of document 01 would print.
-fn say_lines(s: Settlement, table: &[u8], cells: &[u32], order: &[u32]) {
-    let lines = report::output_lines(s);
-    let mut i: usize = 0;
-    while i < lines {
-        let mut line = [0u8; 112];
-        let k = report::output_line(s, table, cells, order, i, &mut line);
-        io::write_all(STDOUT_FILENO, &line[..k]);
-        i += 1;
-    }
+// All that the program of document 01 would print.
+fn say_page(s: Settlement, table: &[u8], cells: &[u32], order: &[u32]) {
+    let mut out = buffer();
+    let k = page::output_page(s, table, cells, order, &mut out);
+    say(&out[..k]);
 }
 
-// The lines, and all that the lent buffers hold then.
+// The page, and all that the lent buffers hold then.
 fn say_settled(n: u8, table: &[u8], cells: &mut [u32], order: &mut [u32], taken: &mut [u8]) {
     let s = settlement::settle(n, table, cells, order, taken);
-    say_lines(s, table, cells, order);
+    say_page(s, table, cells, order);
     say(b"cells");
     say_places(cells);
     say(b"order");
@@ -293,7 +289,7 @@ fn one(i: usize) {
         os::fail(&path[..k]);
         return;
     }
-    let mut input = input_buffer();
+    let mut input = buffer();
     let n = io::read_full(fd, &mut input);
     libc::close(fd);
     say_answer(&input[..n]);

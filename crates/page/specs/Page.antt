@@ -6,7 +6,8 @@ use mathlib.Core.Bool.{cond}
 use mathlib.Core.List.{List, [], _++_}
 use lib.Dec.{leb}
 use lib.ListN.{length}
-use Rattle.rules.specs.declared.Outcome.{Outcome}
+use Rattle.rules.specs.declared.Counts.{Counts}
+use Rattle.rules.specs.Refusals.{Told}
 use Rattle.rules.specs.Settlement.{writtenOver}
 use Rattle.report.specs.Output.{outputLine, outputLines, joined}
 
@@ -24,5 +25,5 @@ pub record Page (f : ℕ → List ℕ) (old : List ℕ) (i : ℕ) (new : List �
   pub whole : 112 * i ≤ length old → fitted f (length old) i ≡ joined f i
 
 -- All lines of an outcome. A number of lines that no `usize` holds is told as the largest, and no buffer is that long.
-abbrev pub OutputPage : Outcome → (table cells order old new : List ℕ) → ℕ → Type 0
+abbrev pub OutputPage : Told Counts → (table cells order old new : List ℕ) → ℕ → Type 0
 OutputPage o t cells order old new r = Page (outputLine o t cells order) old (min (outputLines o) 18446744073709551615) new r

@@ -1,5 +1,6 @@
 // All that the program prints, in one lent buffer.
 ghost use Rattle.io.specs.Counts.{Counts};
+ghost use Rattle.rules.specs.Refusals.{outcomeTells};
 ghost use Rattle.page.specs.Page.{OutputPage};
 use rules::Settlement;
 
@@ -11,7 +12,7 @@ pub fn output_page(
     order: &[u32],
     out: &mut [u8],
 ) -> usize
-    ensures { λ r. ⌜ OutputPage (s .outcome) (now (table .entry)) (now (cells .entry)) (now (order .entry)) (now (out .entry)) (now (out .exit)) r ⌝ }
+    ensures { λ r. ⌜ OutputPage (outcomeTells (s .outcome)) (now (table .entry)) (now (cells .entry)) (now (order .entry)) (now (out .entry)) (now (out .exit)) r ⌝ }
     ensures { λ r. ⌜ Counts r (now (out .exit)) ⌝ }
 {
     let lines = report::output_lines(s);

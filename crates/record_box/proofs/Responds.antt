@@ -7,8 +7,7 @@ use native.Mathlib.Omega.{arith}
 use lib.ListN.{length, take, drop, length-append, length-drop, length-map}
 use lib.Seq.{take-at}
 use Rattle.rules.specs.declared.Settlement.{Settlement}
-use Rattle.rules.specs.declared.Checked.{Checked}
-use Rattle.rules.specs.declared.Checked.the-variants.{Passed, Refused}
+use Rattle.rules.specs.Refusals.{Told, gives, refused, outcomeTells}
 use Rattle.rules.specs.Record.{first, vertices}
 use Rattle.rules.specs.Decision.{cell}
 use Rattle.rules.specs.Decide.{boxSetting, decisions}
@@ -29,13 +28,13 @@ over-short w old k e =
     omega (arith, e)
 
 -- So cells and places that keep their length bound the lines.
-few : (k : Checked) (n : ℕ) (t : List ℕ) (b : Buffers)
+few : (k : Told (Unit {0})) (n : ℕ) (t : List ℕ) (b : Buffers)
     → length (settleIf k (boxSetting n) n (vertices first t) b .buffers .cells) ≡ 474
     → length (settleIf k (boxSetting n) n (vertices first t) b .buffers .order) ≡ 474
     → outputLines (settleIf k (boxSetting n) n (vertices first t) b .outcome) ≤ 949
 unfolding settleIf settled countsOf outputLines
-few (Refused r) n t b p q = omega arith
-few Passed n t b p q =
+few (refused r values) n t b p q = omega arith
+few (gives u) n t b p q =
     let ds = decisions (boxSetting n) n (vertices first t) in
     let ps = writeFrom (boxSetting n .step) (vertices first t) [] ds in
     let c : length ds ≤ 474 = rw length-map at (over-short (map cell ds) (b .cells) 474 p) in
@@ -43,7 +42,7 @@ few Passed n t b p q =
 
 module _ (input : List ℕ) (b a : Buffers) (s : Settlement) (A : Answers input b s a) (held : Held b)
     (cells : length (a .cells) ≡ 474) (order : length (a .order) ≡ 474) where
-  lines-few : outputLines (s .outcome) ≤ 949
+  lines-few : outputLines (outcomeTells (s .outcome)) ≤ 949
   unfolding answered
   lines-few =
       let c = ap length (sym (A .cells)) ∙ cells in
@@ -51,14 +50,14 @@ module _ (input : List ℕ) (b a : Buffers) (s : Settlement) (A : Answers input 
       rw (A .outcome) (few (checked input b) (authorsIn input) (tableIn input) b c o)
 
   pub responds : (t old new : List ℕ) (r : ℕ) → t ≡ tableIn input → 106288 ≤ length old
-      → OutputPage (s .outcome) t (a .cells) (a .order) old new r
+      → OutputPage (outcomeTells (s .outcome)) t (a .cells) (a .order) old new r
       → take r new ≡ printed input
   unfolding output
   responds t old new r e room p =
-      let f = outputLine (s .outcome) t (a .cells) (a .order) in
-      let n : min (outputLines (s .outcome)) 18446744073709551615 ≡ outputLines (s .outcome) = omega (arith, lines-few) in
-      let p′ : Page f old (outputLines (s .outcome)) new r = rw n at p in
-      let w = fitted f (length old) (outputLines (s .outcome)) in
+      let f = outputLine (outcomeTells (s .outcome)) t (a .cells) (a .order) in
+      let n : min (outputLines (outcomeTells (s .outcome))) 18446744073709551615 ≡ outputLines (outcomeTells (s .outcome)) = omega (arith, lines-few) in
+      let p′ : Page f old (outputLines (outcomeTells (s .outcome))) new r = rw n at p in
+      let w = fitted f (length old) (outputLines (outcomeTells (s .outcome))) in
       let front : take r new ≡ w = rw (p′ .buffer) (take-at w (drop (length w) old) r (sym (p′ .answer))) in
-      let all : w ≡ output (s .outcome) t (a .cells) (a .order) = p′ .whole (omega (arith, lines-few)) in
+      let all : w ≡ output (outcomeTells (s .outcome)) t (a .cells) (a .order) = p′ .whole (omega (arith, lines-few)) in
       front ∙ all ∙ rw (A .outcome, A .cells, A .order, e) (prints input b held)

@@ -8,13 +8,14 @@ use Rattle.io.proofs.Counting.{counts}
 use Rattle.report.specs.Output.{outputLine}
 use Rattle.page.specs.Page.{Page}
 use Rattle.page.proofs.Pages.{page-none, page-next, page-length, page-room}
+use Rattle.rules.specs.Refusals.{outcomeTells}
 use borrow.Author.Needs.{needs}
 use Rattle.page.proofs.output_page.Statement.{statement}
 use Rattle.page.proofs.output_page.Tie as tie
 
 abbrev Inv-loop : tie.InvT-loop
 Inv-loop s table cells order out₀ lines done₀ i₀ out done i =
-    Page (outputLine (s .outcome) table cells order) out₀ i out done × (length out ≡ length out₀) × (done ≤ length out) × (i ≤ lines)
+    Page (outputLine (outcomeTells (s .outcome)) table cells order) out₀ i out done × (length out ≡ length out₀) × (done ≤ length out) × (i ≤ lines)
 
 abbrev μ-loop : tie.MeasureT-loop
 μ-loop s table cells order out₀ lines done₀ i₀ out done i = lines - i

@@ -6,21 +6,18 @@ use mathlib.Core.Bool.{false}
 use mathlib.Core.List.{List, map}
 use lib.ListN.{length}
 use denote.Ref.{now}
-use Rattle.rules.specs.declared.Refusal.{Refusal}
-use Rattle.rules.specs.declared.Refusal.the-variants.{Lent}
-use Rattle.rules.specs.declared.Checked.the-variants.{Passed, Refused}
 use Rattle.rules.specs.declared.Counts.{Counts}
-use Rattle.rules.specs.declared.Outcome.the-variants as outcome
 use Rattle.rules.specs.declared.Settlement.{Settlement}
 use Rattle.rules.specs.Record.{first, vertices}
-use Rattle.rules.specs.Refusals.{_when_, _then_}
+use Rattle.rules.specs.Refusals.{gives, refused, passed, outcomeTells}
 use Rattle.rules.specs.Check.{check}
 use Rattle.rules.specs.Decision.{cell}
 use Rattle.rules.specs.Decide.{boxSetting, decisions}
 use Rattle.rules.specs.Order.{order}
-use Rattle.rules.specs.Settlement.{Buffers, lent, tooShort, countsOf, takenBytes, writtenOver}
+use Rattle.rules.specs.Settlement.{Buffers, lent, tooShort, lentCheck, countsOf, takenBytes, writtenOver}
 use Rattle.rules.specs.Written.{Demand2Order}
 use Rattle.rules.specs.Examples.{Hold}
+use Rattle.rules.specs.PastF.{PastF}
 use Rattle.rules.proofs.Only.{Only}
 use Rattle.agreement.specs.Agreement.{Premises, Demand3}
 use Rattle.agreement.specs.Buffers.{AgreeIn}
@@ -52,13 +49,14 @@ pub record Calls : Type 2 where
 module _ (n : ℕ) (t : List ℕ) (before : Buffers) (x : Settlement) (after : Buffers) where
   -- Each refusal is given exactly when document 01 says, and then only; a refused call changes no lent byte.
   pub record Refuses : Type 0 where
-    pub given : (r : Refusal) → (check first n t then Lent when tooShort (boxSetting n) (vertices first t) before) ≡ Refused r → x .outcome ≡ outcome.Refused r
-    pub only-then : (r : Refusal) → x .outcome ≡ outcome.Refused r → (check first n t then Lent when tooShort (boxSetting n) (vertices first t) before) ≡ Refused r
-    pub untouched : (r : Refusal) → x .outcome ≡ outcome.Refused r → after ≡ before
+    pub given : (k : ℕ) (values : List ℕ) → lentCheck (boxSetting n) first n t before ≡ refused k values → outcomeTells (x .outcome) ≡ refused k values
+    pub only-then : (k : ℕ) (values : List ℕ) → outcomeTells (x .outcome) ≡ refused k values → lentCheck (boxSetting n) first n t before ≡ refused k values
+    pub untouched : (k : ℕ) (values : List ℕ) → outcomeTells (x .outcome) ≡ refused k values → after ≡ before
 
   -- An accepted table is decided by document 01's rules, and the order written is the one that the decisions fix.
   pub record Settles : Type 0 where
-    pub counts : x .outcome ≡ outcome.Settled (countsOf n (vertices first t) (decisions (boxSetting n) n (vertices first t)) (order (boxSetting n) n (vertices first t)))
+    pub counts : outcomeTells (x .outcome)
+        ≡ gives (countsOf n (vertices first t) (decisions (boxSetting n) n (vertices first t)) (order (boxSetting n) n (vertices first t)))
     pub cells : after .cells ≡ writtenOver (map cell (decisions (boxSetting n) n (vertices first t))) (before .cells)
     pub places : after .order ≡ writtenOver (order (boxSetting n) n (vertices first t)) (before .order)
     pub taken : after .taken ≡ writtenOver (takenBytes (order (boxSetting n) n (vertices first t)) (length (vertices first t))) (before .taken)
@@ -69,19 +67,20 @@ pub record Base : Type 2 where
   pub refusals : (n : ℕ) (t : List ℕ) (before : Buffers) (x : Settlement) (after : Buffers) → SettlesTo n t before x after → Refuses n t before x after
   -- demand 2
   pub settles : (n : ℕ) (t : List ℕ) (before : Buffers) (x : Settlement) (after : Buffers) → SettlesTo n t before x after
-      → check first n t ≡ Passed → tooShort (boxSetting n) (vertices first t) before ≡ false → Settles n t before x after
+      → check first n t ≡ passed → tooShort (boxSetting n) (vertices first t) before ≡ false → Settles n t before x after
   -- with nothing missing and nothing twice; and what a history, the highest and the first undecided round are
   pub orders : Demand2Order
   -- demand 3: of the rules, and of what two calls leave in their buffers
   pub boxes-agree : Demand3
   pub calls-agree : (n : ℕ) (t u : List ℕ) → Premises first n t u
       → (before before′ after after′ : Buffers) (x y : Settlement) (c d : Counts)
-      → SettlesTo n t before x after → x .outcome ≡ outcome.Settled c
-      → SettlesTo n u before′ y after′ → y .outcome ≡ outcome.Settled d
+      → SettlesTo n t before x after → outcomeTells (x .outcome) ≡ gives c
+      → SettlesTo n u before′ y after′ → outcomeTells (y .outcome) ≡ gives d
       → AgreeIn t u c d after after′
   -- any two results that meet the contract of `settle` are equal; each crate's `proofs/Unique.antt` says it of its own
   pub one-result : Only 4 settle-kinds.ps settle-kinds.r
       (λ κs x e y f. (x ≡ y) × (lent (now (e .1 .1 .0)) (now (e .1 .1 .1 .0)) (now (e .1 .1 .1 .1 .0)) ≡ lent (now (f .1 .1 .0)) (now (f .1 .1 .1 .0)) (now (f .1 .1 .1 .1 .0))))
       settle-promise.Post
-  -- P1 to P14 and the three sums
+  -- P1 to P14 and the three sums; and past f equivocators, commit before skip and the lowest mark
   pub examples : Hold
+  pub past-f : PastF

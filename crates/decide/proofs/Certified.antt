@@ -93,20 +93,20 @@ module _ {n : ℕ} {vs : List Vertex} (A : Accepted n vs) where
 
     -- at most one mark is backed by a quorum
     pub one-mark : (m m′ : ℕ) → m ≢ 0 → m′ ≢ 0 → quorum n ≤ countMark marks m → quorum n ≤ countMark marks m′ → m ≡ m′
-    one-mark m m′ d d′ h h′ = go (count-witness (λ i. eqb (backed i) m and eqb (backed i) m′) n some)
+    one-mark m m′ d d′ h h′ = shared (count-witness (λ i. eqb (backed i) m and eqb (backed i) m′) n some)
       where
         some : 0 < countTo (λ i. eqb (backed i) m and eqb (backed i) m′) n
         some = omega (arith, A .count, backs-count m d, backs-count m′ d′, count-and (λ i. eqb (backed i) m) (λ i. eqb (backed i) m′) n)
 
-        go : (i : ℕ) × (i < n) × (eqb (backed i) m and eqb (backed i) m′ ≡ true) → m ≡ m′
-        go (i, l, t) = sym (eqb-true _ _ (and-left _ _ t)) ∙ eqb-true _ _ (and-right _ _ t)
+        shared : (i : ℕ) × (i < n) × (eqb (backed i) m and eqb (backed i) m′ ≡ true) → m ≡ m′
+        shared (i, l, t) = sym (eqb-true _ _ (and-left _ _ t)) ∙ eqb-true _ _ (and-right _ _ t)
 
     -- some reference backs a mark that a quorum backs
     some-mark : (m : ℕ) → m ≢ 0 → quorum n ≤ countMark marks m → enoughOf marks (quorum n) ≡ m
-    some-mark m d h = go (count-witness (λ i. eqb (backed i) m) n (omega (arith, backs-count m d)))
+    some-mark m d h = backer (count-witness (λ i. eqb (backed i) m) n (omega (arith, backs-count m d)))
       where
-        go : (i : ℕ) × (i < n) × (eqb (backed i) m ≡ true) → enoughOf marks (quorum n) ≡ m
-        go (i, l, t) =
+        backer : (i : ℕ) × (i < n) × (eqb (backed i) m ≡ true) → enoughOf marks (quorum n) ≡ m
+        backer (i, l, t) =
             let is : getD marks i 0 ≡ m = backs-low i (omega (arith, A .few)) ∙ eqb-true _ _ t in
             let found : enoughOf marks (quorum n) ≢ 0 = enough-some marks (quorum n) i (omega (arith, A .few)) (λ z. d (sym is ∙ z)) (subst (λ k. quorum n ≤ countMark marks k) (sym is) h) in
             one-mark (enoughOf marks (quorum n)) m found d (enough-is marks (quorum n) found) h

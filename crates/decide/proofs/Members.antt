@@ -81,10 +81,10 @@ module _ {n : ℕ} {vs : List Vertex} (A : Accepted n vs) (round leader a : ℕ)
 
   pub told-start : below (startOf vs (round + 2) 0) ≡ length vs
   unfolding toldBelow
-  told-start = first-none _ (length vs) (λ p l. failed _ (λ e. go p (and-left _ _ e) (any-witness _ _ (and-right _ _ e))))
+  told-start = first-none _ (length vs) (λ p l. failed _ (λ e. no-teller p (and-left _ _ e) (any-witness _ _ (and-right _ _ e))))
     where
-      go : (p : ℕ) → slot p ≡ true → (q : ℕ) × (q < startOf vs (round + 2) 0) × (tells p q ≡ true) → ⊥
-      go p s (q, lq, e) =
+      no-teller : (p : ℕ) → slot p ≡ true → (q : ℕ) × (q < startOf vs (round + 2) 0) × (tells p q ≡ true) → ⊥
+      no-teller p s (q, lq, e) =
           let u : q < length vs = omega (arith, start-bound A (round + 2) 0) in
           omega (arith, round-in A (round + 2) q (record { within = u; round = two-up p q s e }) .from-on)
 

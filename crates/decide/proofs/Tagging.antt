@@ -22,7 +22,7 @@ use Rattle.rules.proofs.Accepted.{Accepted}
 use Rattle.rules.proofs.Support.{blank-is, is-blank, certifies-is}
 use Rattle.decide.specs.Range.{startOf}
 use Rattle.decide.specs.Certify.{certifiedAt}
-use Rattle.decide.specs.Work.{historyAt, tagAt, Retagged, Tagged, authorsTagged, windowTag}
+use Rattle.decide.specs.Work.{Window, historyAt, tagAt, Retagged, Tagged, authorsTagged, windowTag}
 use Rattle.decide.proofs.Ranges.{InSlot, in-slot, slot-in, round-in}
 use Rattle.decide.proofs.Certified.{certified-test}
 
@@ -184,7 +184,7 @@ module _ {n : ℕ} {vs : List Vertex} (A : Accepted n vs) where
           ∙ both-ways _ _ (λ h. is-blank _ r leader (record { one-up = e; empty = eqb-true _ _ h })) (λ h. eq-eqb _ _ (blank-is _ r leader h .empty)))
 
   -- tag p - b + 1 on those that certify the vertex at p
-  pub commit-tagged : (r leader b e p : ℕ) (m : List ℕ) → ((w : ℕ) → w < length vs → at vs w .round ≡ r + 2 → tagAt m w ≡ windowTag (certifiedAt n vs r leader w) b e)
+  commit-tagged : (r leader b e p : ℕ) (m : List ℕ) → ((w : ℕ) → w < length vs → at vs w .round ≡ r + 2 → tagAt m w ≡ windowTag (certifiedAt n vs r leader w) b e)
       → b ≤ p → p < e → InSlot vs r leader p → leb (quorum n) (authorsTagged n vs (r + 2) (p - b + 1) m) ≡ directCommit n vs (at vs p)
   unfolding directCommit
   commit-tagged r leader b e p m T l h s = ap (leb (quorum n)) (authors-tagged-are (r + 2) (p - b + 1) m (λ w. certifies n vs w (at vs p)) told (λ v c. certifies-is n vs v (at vs p) c .two-up ∙ ap (λ x. x + 2) (s .round)))
@@ -193,3 +193,7 @@ module _ {n : ℕ} {vs : List Vertex} (A : Accepted n vs) where
       told w lw q =
           rw (T w lw q) (window-test (certifiedAt n vs r leader w) p b e l h)
           ∙ certified-test A w leader lw r q p (s .within) (s .round) (s .author)
+
+  -- so of each vertex of the window
+  pub window-commit : {r leader b e : ℕ} {m : List ℕ} → Window n vs r leader b e m → (p : ℕ) → b ≤ p → p < e → leb (quorum n) (authorsTagged n vs (r + 2) (p - b + 1) m) ≡ directCommit n vs (at vs p)
+  window-commit {r} {leader} {b} {e} {m} W p l h = commit-tagged r leader b e p m (W .tags) l h (in-slot A r leader p (omega (arith, W .from-on)) (omega (arith, W .up-to)))

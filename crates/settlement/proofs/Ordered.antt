@@ -76,11 +76,11 @@ cell-committed (committed a) c e z o = ap committed (omega arith)
 member-append : (x : ℕ) (v w : List ℕ) → member x (v ++ w) ≡ member x v or member x w
 unfolding member _or_
 member-append x [] w = refl
-member-append x (y ∷ v) w = go (eqb x y) (member-append x v w)
+member-append x (y ∷ v) w = or-more (eqb x y) (member-append x v w)
   where
-    go : (b : Bool) → member x (v ++ w) ≡ member x v or member x w → b or member x (v ++ w) ≡ (b or member x v) or member x w
-    go true e = refl
-    go false e = e
+    or-more : (b : Bool) → member x (v ++ w) ≡ member x v or member x w → b or member x (v ++ w) ≡ (b or member x v) or member x w
+    or-more true e = refl
+    or-more false e = e
 
 member-filter : (t : ℕ → Bool) (k x : ℕ) → x < k → member x (filterTo t k) ≡ t x
 member-filter t k x l = both-ways _ _ (λ e. filter-sound t k x (member-sound x _ e) .1) (λ e. member-complete x _ (filter-complete t k x l e))

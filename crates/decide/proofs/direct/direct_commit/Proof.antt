@@ -56,7 +56,7 @@ commit-in-requires c κs =
     let within : m .smaller .result ≤ l .loop .b + 127 = omega (arith, m .smaller .ensures) in
     let from-on : startOf (vertices first (s .args .table .now)) (s .args .round) (s .args .leader) ≤ l .loop .b = omega (arith, b .begin2 .ensures) in
     let up-to : m .smaller .result ≤ startOf (vertices first (s .args .table .now)) (s .args .round) (s .args .leader + 1) = omega (arith, m .smaller .ensures, b .before .begin .ensures) in
-    (ready-on (s .pre .0) still, (s .pre .1 .0, (within, (from-on, (up-to, g .tag-certified .ensures .tags)))))
+    (ready-on (s .pre .0) still, (s .pre .1 .0, record { few = within; from-on = from-on; up-to = up-to; tags = g .tag-certified .ensures .tags }))
 
 same-length : tie.Need-same-length Inv-loop μ-loop
 same-length c =

@@ -46,7 +46,7 @@ through-anchor-requires c κs =
     let H = T .before in
     let I = H .before .before .before .before .pre in
     let found = anchor-cell I _ _ (H .highest-of .ensures) (T .stop-at .ensures) (c .before .before .before .if1 .left) (c .before .if2 .left) .1 in
-    (I .ready, (I .from-one, (round-low I, (found .within, (found .above, I .walked)))))
+    record { ready = I .ready; from-one = I .from-one; low = round-low I; within = found .within; above = found .above; walked = I .walked }
 
 returns-3 : tie.Need-returns-3
 returns-3 c =

@@ -157,9 +157,11 @@ module _ {n : ℕ} {vs : List Vertex} (A : Accepted n vs) where
       not-under (inr (e, u)) = omega arith
 
 -- the place that the search by halves of the code gives
-pub start-is : {n : ℕ} (t : List ℕ) → Accepted n (vertices first t) → (r a p : ℕ) → p ≡ placeOf t (min (records first t) (records first t)) (named r a 0) → p ≡ startOf (vertices first t) r a
+pub start-is : {n : ℕ} (t : List ℕ) → Accepted n (vertices first t) → (r a p : ℕ) → p ≡ placeOf t (min (records first t) (records first t)) (named r a 0)
+    → p ≡ startOf (vertices first t) r a
 unfolding startOf
 start-is {n} t A r a p e =
     let all : min (records first t) (records first t) ≡ records first t = omega arith in
-    let same : (i : ℕ) → i < records first t → not (below (nameAt t i) (named r a 0)) ≡ not (below (nameOf (at (vertices first t) i)) (named r a 0)) = λ i l. ap (λ x. not (below x (named r a 0))) (sym (name-at t i l)) in
+    let same : (i : ℕ) → i < records first t → not (below (nameAt t i) (named r a 0)) ≡ not (below (nameOf (at (vertices first t) i)) (named r a 0)) =
+    λ i l. ap (λ x. not (below x (named r a 0))) (sym (name-at t i l)) in
     e ∙ rw (all, vertices-length first t) (sym (first-by _ (records first t) _ (place-first t (named r a 0) (rise-all n t A))) ∙ first-same _ _ (records first t) same)

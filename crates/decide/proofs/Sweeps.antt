@@ -44,7 +44,8 @@ byte-bit x h = by-test (eqb (x / 128) 1) (λ e. rw e (eqb-true (x / 128) 1 e)) (
     zero-is f = omega arith
 
 -- one byte more that tells of none
-pub forget-next : (m : List ℕ) (q b : ℕ) → q < length m → b ≡ getD m q 0 % 128 → ((i : ℕ) → i < q → historyAt m i ≡ 0) → (i : ℕ) → i < q + 1 → historyAt (set m q b) i ≡ 0
+pub forget-next : (m : List ℕ) (q b : ℕ) → q < length m → b ≡ getD m q 0 % 128 → ((i : ℕ) → i < q → historyAt m i ≡ 0) → (i : ℕ) → i < q + 1
+    → historyAt (set m q b) i ≡ 0
 forget-next m q b l e h i k = by-test (ltb i q) (λ t. rw (getD-set-other m q i b 0 (λ z. omega (arith, ltb-true i q t))) (h i (ltb-true i q t))) here
   where
     here : ltb i q ≡ false → historyAt (set m q b) i ≡ 0
@@ -68,7 +69,8 @@ pub marked-none : (vs : List Vertex) (p : ℕ) (m : List ℕ) → ((q : ℕ) →
 marked-none vs p m h q l = byte-bit (getD m q 0) (h q) ∙ ap bit (sym (or-none _) ∙ ap (λ b. eqb (historyAt m q) 1 or b) (sym (named-none vs p q)))
 
 module _ {n : ℕ} {vs : List Vertex} (A : Accepted n vs) (p : ℕ) (l : p < length vs) (old m : List ℕ) where
-  pub marked-all : (i : ℕ) → n ≤ i → MarkedTo vs p i old m → (q : ℕ) → q < length vs → historyAt m q ≡ bit (eqb (historyAt old q) 1 or references (at vs p) (nameOf (at vs q)))
+  pub marked-all : (i : ℕ) → n ≤ i → MarkedTo vs p i old m → (q : ℕ) → q < length vs
+      → historyAt m q ≡ bit (eqb (historyAt old q) 1 or references (at vs p) (nameOf (at vs q)))
   marked-all i h M q lq = M q lq ∙ ap (λ b. bit (eqb (historyAt old q) 1 or b)) (named-all A p l i q h lq)
 
   -- entry i is 0

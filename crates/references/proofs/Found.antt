@@ -89,7 +89,8 @@ module _ {n : ℕ} (t : List ℕ) (A : Accepted n (vertices first t)) (p : ℕ) 
   found-at f =
       let low : find (vertices first t) (entryName v i) < p = earlier A p i l f in
       let all : min p (records first t) ≡ p = omega (arith, few) in
-      let q : getD (placesOf t p) i 0 ≡ find (vertices first t) (entryName v i) = place-at ∙ rw (ne-eqb _ _ f, all) (find-among t A (entryName v i) p (omega (arith, few)) low) in
+      let q : getD (placesOf t p) i 0 ≡ find (vertices first t) (entryName v i) =
+      place-at ∙ rw (ne-eqb _ _ f, all) (find-among t A (entryName v i) p (omega (arith, few)) low) in
       (q, rw q low)
 
   -- a place below p is that of a reference

@@ -12,7 +12,8 @@ unfolding placesOf
 returns c =
     let d = c .before .before .before in
     let a = d .before .before .before .args in
-    let is : d .decode .result ≡ decode first (recordAt first (a .table .now) (a .p)) = d .decode .ensures ∙ ap (decode first) (d .before .part .ensures .bytes) in
+    let is : d .decode .result ≡ decode first (recordAt first (a .table .now) (a .p)) =
+    d .decode .ensures ∙ ap (decode first) (d .before .part .ensures .bytes) in
     c .places-among .ensures ∙ rw (c .before .round-before .ensures, is) refl
 
 pub places-of-spec : {M : Type 1} → statement M

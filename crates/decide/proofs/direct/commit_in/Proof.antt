@@ -32,7 +32,9 @@ returns c =
     let vs = vertices first (a .table .now) in
     let p = l .loop .p in
     let is = window-commit (s .pre .0 .sound .accepted) (s .pre .1 .1) p (l .loop .inv .0) (omega arith) in
-    let enough = le-leb (quorum (a .n)) (authorsTagged (a .n) vs (a .round + 2) (p - a .b + 1) (a .work .now)) (omega (arith, c .if1 .taken, c .before .authors-tagged .ensures, l .before .quorum-of .ensures)) in
+    let enough =
+    le-leb (quorum (a .n)) (authorsTagged (a .n) vs (a .round + 2) (p - a .b + 1) (a .work .now))
+    (omega (arith, c .if1 .taken, c .before .authors-tagged .ensures, l .before .quorum-of .ensures)) in
     from-found vs (directCommit (a .n) vs) (a .b) (a .e) p (l .loop .inv .0) (omega arith) (l .loop .inv .2) (sym is ∙ enough)
 
 loop-again : tie.Need-loop-again Inv-loop μ-loop
@@ -43,7 +45,9 @@ loop-again c =
     let vs = vertices first (a .table .now) in
     let p = l .loop .p in
     let is = window-commit (s .pre .0 .sound .accepted) (s .pre .1 .1) p (l .loop .inv .0) (omega arith) in
-    let few = lt-leb (quorum (a .n)) (authorsTagged (a .n) vs (a .round + 2) (p - a .b + 1) (a .work .now)) (omega (arith, c .if1 .left, c .before .authors-tagged .ensures, l .before .quorum-of .ensures)) in
+    let few =
+    lt-leb (quorum (a .n)) (authorsTagged (a .n) vs (a .round + 2) (p - a .b + 1) (a .work .now))
+    (omega (arith, c .if1 .left, c .before .authors-tagged .ensures, l .before .quorum-of .ensures)) in
     (omega arith, omega arith, fail-next vs (directCommit (a .n) vs) (a .b) p (l .loop .inv .2) (sym is ∙ few))
 
 returns-2 : tie.Need-returns-2 Inv-loop μ-loop

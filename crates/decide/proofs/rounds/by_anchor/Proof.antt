@@ -52,7 +52,9 @@ returns-3 : tie.Need-returns-3
 returns-3 c =
     let T = c .before .before .before .before .before .before .before in
     let H = T .before in
-    told-through (H .before .before .before .before .pre) _ _ (H .highest-of .ensures) (T .stop-at .ensures) (c .before .before .before .before .before .before .if1 .left) (c .before .before .before .before .if2 .left) _ _ _ _ (c .before .before .through-anchor .ensures)
+    told-through (H .before .before .before .before .pre) _ _ (H .highest-of .ensures) (T .stop-at .ensures)
+    (c .before .before .before .before .before .before .if1 .left) (c .before .before .before .before .if2 .left) _ _ _ _
+    (c .before .before .through-anchor .ensures)
 
 pub by-anchor-spec : {M : Type 1} → statement M
 by-anchor-spec =

@@ -40,7 +40,9 @@ returns c =
     let k = l .before in
     let s = k .before .before .before in
     let found = rw (l .leader-of .ensures) at (i .certified-in .ensures) in
-    through-told (s .pre .ready .sound .accepted) (s .args .round) (s .pre .from-one) (s .args .a) (i .certified-in .result) found (k .records-of .result) (k .records-of .ensures ∙ sym (vertices-length first (s .args .table .now))) (c .cell-of .result) (c .cell-of .ensures) _ _ _ _ (w .walk-to .ensures .0) (w .walk-to .ensures .1 .0) (w .walk-to .ensures .1 .1 .1)
+    through-told (s .pre .ready .sound .accepted) (s .args .round) (s .pre .from-one) (s .args .a) (i .certified-in .result) found (k .records-of .result)
+    (k .records-of .ensures ∙ sym (vertices-length first (s .args .table .now))) (c .cell-of .result) (c .cell-of .ensures) _ _ _ _ (w .walk-to .ensures .0)
+    (w .walk-to .ensures .1 .0) (w .walk-to .ensures .1 .1 .1)
 
 pub through-anchor-spec : {M : Type 1} → statement M
 through-anchor-spec =

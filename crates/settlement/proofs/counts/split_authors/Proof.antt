@@ -37,7 +37,8 @@ array-write-split c =
     let s = l .before .before .before in
     let t = s .args .table .now in
     let within : l .loop .p < length (vertices first t) = omega (arith, l .before .records-of .ensures, vertices-length first t) in
-    author-few (s .pre .accepted) (l .loop .p) (x .name-of .result) within (named-at t (l .loop .p) _ (x .name-of .result) within (x .before .part .ensures .bytes) (x .name-of .ensures))
+    author-few (s .pre .accepted) (l .loop .p) (x .name-of .result) within
+    (named-at t (l .loop .p) _ (x .name-of .result) within (x .before .part .ensures .bytes) (x .name-of .ensures))
 
 loop-again : tie.Need-loop-again Inv-loop μ-loop
 loop-again c =

@@ -76,7 +76,8 @@ returns c =
     let k = begun-length a w m room (s .pre .1 .1) (o .mark-one .result) m1 (o .mark-one .ensures) in
     let A = s .pre .0 .sound .accepted in
     let B = l .loop .inv .0 in
-    down-of a w m room (s .pre .1 .1) (o .mark-one .result) m1 (o .mark-one .ensures) (l .loop .low) (l .loop .taken) (down-end A (by-references A) a w m1 (omega (arith, room, k)) B (l .loop .p) (l .loop .low) (l .loop .taken) (omega arith) (l .loop .inv .1))
+    down-of a w m room (s .pre .1 .1) (o .mark-one .result) m1 (o .mark-one .ensures) (l .loop .low) (l .loop .taken)
+    (down-end A (by-references A) a w m1 (omega (arith, room, k)) B (l .loop .p) (l .loop .low) (l .loop .taken) (omega arith) (l .loop .inv .1))
 
 pub mark-down-spec : {M : Type 1} → statement M
 mark-down-spec =

@@ -59,7 +59,8 @@ returns : tie.Need-returns Inv-loop μ-loop
 returns c =
     let l = c .before in
     let s = l .before .before .before .before in
-    more-end (s .pre .0 .sound .accepted) (s .args .p) (s .pre .1) (s .args .taken .now) (s .args .low) (l .loop .i) (l .loop .lowest) (l .loop .taken) (l .loop .inv .1) (omega arith)
+    more-end (s .pre .0 .sound .accepted) (s .args .p) (s .pre .1) (s .args .taken .now) (s .args .low) (l .loop .i) (l .loop .lowest) (l .loop .taken)
+    (l .loop .inv .1) (omega arith)
 
 pub mark-more-spec : {M : Type 1} → statement M
 mark-more-spec =

@@ -35,7 +35,9 @@ returns c =
     let d = x .before .before .before .before .before in
     let s = d .before .before .before .before .before in
     let R = s .pre .0 .ready in
-    led (R .sound .accepted) (by-references (R .sound .accepted)) (s .args .a) (s .pre .1 .0) (s .args .taken .now) (R .room) (d .mark-down .result) (d .mark-down .last .1 .1 .1 .0) (d .mark-down .ensures) (s .args .count) (x .write-marked .result) (s .args .order .now) (x .write-marked .last .1 .1 .0) (x .write-marked .last .1 .1 .1 .0) (x .write-marked .ensures .0) (x .write-marked .ensures .1 .0) (x .write-marked .ensures .1 .1)
+    led (R .sound .accepted) (by-references (R .sound .accepted)) (s .args .a) (s .pre .1 .0) (s .args .taken .now) (R .room) (d .mark-down .result)
+    (d .mark-down .last .1 .1 .1 .0) (d .mark-down .ensures) (s .args .count) (x .write-marked .result) (s .args .order .now) (x .write-marked .last .1 .1 .0)
+    (x .write-marked .last .1 .1 .1 .0) (x .write-marked .ensures .0) (x .write-marked .ensures .1 .0) (x .write-marked .ensures .1 .1)
 
 pub write-leader-spec : {M : Type 1} → statement M
 write-leader-spec =

@@ -79,8 +79,15 @@ module _ {n : ℕ} {vs : List Vertex} (A : Accepted n vs) where
     unfolding backs
     backs-low i l = getD-tabulate backed 31 i 0 l
 
+    past-none : (i : ℕ) → n ≤ i → backed i ≡ 0
+    past-none i l = backs-none i (eqb-true _ _ (passed _ (λ f. absurd (omega (arith, entry-low A w i lw (eqb-false _ _ f))))))
+
     backs-past : (i : ℕ) → n ≤ i → i < 31 → getD marks i 0 ≡ 0
-    backs-past i l h = backs-low i h ∙ backs-none i (eqb-true _ _ (passed _ (λ f. absurd (omega (arith, entry-low A w i lw (eqb-false _ _ f))))))
+    backs-past i l h = backs-low i h ∙ past-none i l
+
+    -- those of the n authors are all
+    pub backs-few : (i : ℕ) → cond (ltb i n) (backed i) 0 ≡ backed i
+    backs-few i = by-test (ltb i n) (λ e. rw e) (λ e. rw e (sym (past-none i (ltb-false i n e))))
 
     -- how many back a mark
     pub backs-count : (mark : ℕ) → mark ≢ 0 → countMark marks mark ≡ countTo (λ i. eqb (backed i) mark) n
@@ -188,13 +195,13 @@ module _ {n : ℕ} {vs : List Vertex} (A : Accepted n vs) where
 
 -- what is read where the references of the vertex at w stand
 module _ {n : ℕ} (t : List ℕ) (A : Accepted n (vertices first t)) (w leader : ℕ) (lw : w < length (vertices first t)) where
-  pub backed-at : (i q b : ℕ) → i < 31 → q ≡ getD (placesOf t w) i 0 → b ≡ cond (ltb q w) (entry (at (vertices first t) q) leader) 0
+  pub backed-at : (i q b : ℕ) → i < 31 → q ≡ getD (placesOf n t w) i 0 → b ≡ cond (ltb q w) (entry (at (vertices first t) q) leader) 0
       → b ≡ entry (vertexOf (vertices first t) (entryName (at (vertices first t) w) i)) leader
   unfolding vertexOf
   backed-at i q b li is e =
       by-test (ltb q w) (λ h. e ∙ rw h (low (rw is at (ltb-true q w h))))
       (λ h. e ∙ rw h (sym (backs-none A w leader lw i (no-reference t A w lw i li (rw is at (ltb-false q w h))))))
     where
-      low : getD (placesOf t w) i 0 < w
+      low : getD (placesOf n t w) i 0 < w
           → entry (at (vertices first t) q) leader ≡ entry (vertexOf (vertices first t) (entryName (at (vertices first t) w) i)) leader
       low h = rw (is, reference-at t A w lw i li h .place)

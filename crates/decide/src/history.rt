@@ -68,7 +68,7 @@ fn mark_refs(n: u8, table: &[u8], p: usize, work: &mut [u8])
     ensures { λ r. ⌜ length (now (work .exit)) ≡ length (now (work .entry)) ⌝ }
     ensures { λ r. ⌜ ((q : ℕ) → q < recordsOf (now (table .entry)) → historyAt (now (work .exit)) q ≡ bit (eqb (historyAt (now (work .entry)) q) 1 or references (at (verticesOf (now (table .entry))) p) (nameOf (at (verticesOf (now (table .entry))) q)))) ⌝ }
 {
-    let places = places_of(table, p);
+    let places = places_of(n, table, p);
     let k = n as usize;
     let mut i: usize = 0;
     while i < k {

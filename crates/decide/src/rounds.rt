@@ -70,7 +70,9 @@ fn cell_of(p: usize, k: usize, other: u32) -> u32
 // The round through its anchor, the vertex at a.
 fn through_anchor(n: u8, table: &[u8], round: u32, a: usize, walk: Walk, work: &mut [u8]) -> Round
     requires { ⌜ AtAnchor references first n (now table) round a (walk .anchor) (walk .done) (now work) ⌝ }
-    ensures { λ r. ⌜ Told references (verticesOf (now (table .entry))) (throughAnchor (boxSetting n) n (verticesOf (now (table .entry))) (round - 1) a) (now (work .entry)) (r .cell) (r .walk .anchor) (r .walk .done) (now (work .exit)) ⌝ }
+    ensures { λ r. ⌜ Told references (verticesOf (now (table .entry)))
+        (throughAnchor (boxSetting n) n (verticesOf (now (table .entry))) (round - 1) a)
+        (now (work .entry)) (r .cell) (r .walk .anchor) (r .walk .done) (now (work .exit)) ⌝ }
 {
     let k = record::records_of(table);
     let leader = leader_of(n, round);
@@ -86,7 +88,9 @@ fn through_anchor(n: u8, table: &[u8], round: u32, a: usize, walk: Walk, work: &
 // One round by the indirect rule.
 fn by_anchor(n: u8, table: &[u8], round: u32, cells: &[u32], walk: Walk, work: &mut [u8]) -> Round
     requires { ⌜ InHand (boxSetting n) first n (now table) round (now cells) (walk .anchor) (walk .done) (now work) ⌝ }
-    ensures { λ r. ⌜ Told references (verticesOf (now (table .entry))) (indirect (boxSetting n) n (verticesOf (now (table .entry))) (round - 1) (anchor (drop (round + 2) (decisions (boxSetting n) n (verticesOf (now (table .entry))))))) (now (work .entry)) (r .cell) (r .walk .anchor) (r .walk .done) (now (work .exit)) ⌝ }
+    ensures { λ r. ⌜ Told references (verticesOf (now (table .entry)))
+        (indirect (boxSetting n) n (verticesOf (now (table .entry))) (round - 1) (anchor (drop (round + 2) (decisions (boxSetting n) n (verticesOf (now (table .entry)))))))
+        (now (work .entry)) (r .cell) (r .walk .anchor) (r .walk .done) (now (work .exit)) ⌝ }
 {
     let top = highest_of(table);
     let t = stop_at(cells, round, top);
@@ -103,7 +107,9 @@ fn by_anchor(n: u8, table: &[u8], round: u32, cells: &[u32], walk: Walk, work: &
 // One round: by the direct rules, and else by the indirect one.
 fn decide_one(n: u8, table: &[u8], round: u32, cells: &[u32], walk: Walk, work: &mut [u8]) -> Round
     requires { ⌜ InHand (boxSetting n) first n (now table) round (now cells) (walk .anchor) (walk .done) (now work) ⌝ }
-    ensures { λ r. ⌜ Told references (verticesOf (now (table .entry))) (decisionAt (decisions (boxSetting n) n (verticesOf (now (table .entry)))) (round - 1)) (now (work .entry)) (r .cell) (r .walk .anchor) (r .walk .done) (now (work .exit)) ⌝ }
+    ensures { λ r. ⌜ Told references (verticesOf (now (table .entry)))
+        (decisionAt (decisions (boxSetting n) n (verticesOf (now (table .entry)))) (round - 1)) (now (work .entry)) (r .cell) (r .walk .anchor)
+        (r .walk .done) (now (work .exit)) ⌝ }
 {
     let k = record::records_of(table);
     let leader = leader_of(n, round);

@@ -23,6 +23,7 @@ use Rattle.rules.proofs.Records.{vertices-length}
 use Rattle.rules.proofs.Accepted.{Accepted, author-low, rising}
 use Rattle.table.proofs.Names.{name-at}
 use Rattle.folds.proofs.Over.{or-last, set-tabulate}
+use Rattle.settlement.specs.Twins.{side}
 
 -- ---- a search from below
 
@@ -32,11 +33,7 @@ first-found p k i l none t = sym (first-by p k i (record { within = omega arith;
 
 -- ---- two neighbours
 
--- The records at p and after it are of one round and one author.
-abbrev pub side : List Vertex → ℕ → Bool
-side vs p = eqb (at vs p .round) (at vs (p + 1) .round) and eqb (at vs p .author) (at vs (p + 1) .author)
-
--- And that author is a.
+-- They are of one round and one author, and that author is a.
 abbrev pub pair : List Vertex → ℕ → ℕ → Bool
 pair vs a p = side vs p and eqb (at vs (p + 1) .author) a
 

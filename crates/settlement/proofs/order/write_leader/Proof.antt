@@ -27,7 +27,7 @@ write-marked-requires c κs =
     let few : a < 4096 = omega (arith, R .sound .few, w) in
     let within : a < length m₁ = omega (arith, kept, w, R .room) in
     let places : s .args .count + countTo (due m₁) (a + 1) ≤ length (s .args .order .now) = omega (arith, room, s .pre .0 .places) in
-    (few, (within, (d .mark-down .ensures .lower, (d .mark-down .ensures .none-below, places))))
+    record { few = few; within = within; lower = d .mark-down .ensures .lower; none-below = d .mark-down .ensures .none-below; places = places }
 
 returns : tie.Need-returns
 returns c =

@@ -2,7 +2,7 @@
 -- in the places, the bytes and the count. The measure is the slots that are left.
 -- Assumes nothing.
 use Prim.Native.Nat.{_-_, _≤_, _<_}
-use mathlib.Core.Path.{sym, ap, _∙_}
+use mathlib.Core.Path.{_≡_, sym, ap, _∙_}
 use mathlib.Core.Logic.{⊎-elim}
 use lib.ListN.{length, getD}
 use Rattle.rules.specs.Record.{first, vertices}
@@ -43,7 +43,8 @@ returns c =
     let g = l .before .before .before .before .before in
     let D = g .pre .0 in
     let low : l .loop .s < highest (vertices first (g .args .table .now)) = omega (arith, g .pre .1) in
-    upto-stop (D .cleared) (l .loop .inv .1) (slot-low _ _ low) (cell-undecided _ (sym (D .in-cells .held (l .loop .s) (omega arith) low) ∙ c .if1 .taken))
+    let empty : getD (g .args .cells .now) (l .loop .s) 0 ≡ 0 = omega (arith, c .if1 .taken) in
+    upto-stop (D .cleared) (l .loop .inv .1) (slot-low _ _ low) (cell-undecided _ (sym (D .in-cells .held (l .loop .s) (omega arith) low) ∙ empty))
 
 cast-write-leader : tie.Need-cast-write-leader Inv-loop μ-loop
 cast-write-leader c =

@@ -1,13 +1,13 @@
 -- An array of 31 that is filled from its front and holds d from there on.
 -- Assumes nothing.
 use Prim.Native.Nat.{ℕ, _+_, _<_, min}
-use mathlib.Core.Path.{_≡_, sym, _∙_}
+use mathlib.Core.Path.{_≡_, sym, _∙_, subst}
 use mathlib.Core.Bool.{cond}
 use mathlib.Core.List.{List}
 use native.Mathlib.Omega.{arith}
 use lib.Dec.{ltb, eqb}
 use lib.ListN.{length, getD, set, replicate, length-set, length-replicate, getD-replicate}
-use lib.Seq.{getD-set-same, getD-set-other, ext-getD}
+use lib.Seq.{getD-set-same, getD-set-other, set-getD, ext-getD}
 use borrow.Author.Tests.{eqb-true, eqb-false, ltb-true, lt-ltb, le-ltb}
 use Rattle.folds.specs.Folds.{tabulate}
 use Rattle.folds.proofs.Tests.{by-test, both-ways}
@@ -37,6 +37,10 @@ filled-next f d i r v l e s = record {
 
     other : (j : ℕ) → j < 31 → (j ≡ i → ⊥) → getD (set r i v) j 0 ≡ cond (ltb j (i + 1)) (f j) d
     other j h n = rw (same j n) (getD-set-other r i j v 0 n ∙ s .told j h)
+
+-- the next is d already
+pub filled-keep : (f : ℕ → ℕ) (d i : ℕ) (r : List ℕ) → i < 31 → f i ≡ d → Filled f d i r → Filled f d (i + 1) r
+filled-keep f d i r l e s = subst (Filled f d (i + 1)) (set-getD r i 0) (filled-next f d i r (getD r i 0) l (s .told i l ∙ rw (le-ltb i i (omega arith)) (sym e)) s)
 
 -- filled as far as i, it is what g gives
 pub filled-end : (f g : ℕ → ℕ) (d i : ℕ) (r : List ℕ) → ((j : ℕ) → j < 31 → cond (ltb j i) (f j) d ≡ g j) → Filled f d i r → r ≡ tabulate g 31

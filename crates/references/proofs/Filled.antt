@@ -40,7 +40,8 @@ filled-next f d i r v l e s = record {
 
 -- the next is d already
 pub filled-keep : (f : ℕ → ℕ) (d i : ℕ) (r : List ℕ) → i < 31 → f i ≡ d → Filled f d i r → Filled f d (i + 1) r
-filled-keep f d i r l e s = subst (Filled f d (i + 1)) (set-getD r i 0) (filled-next f d i r (getD r i 0) l (s .told i l ∙ rw (le-ltb i i (omega arith)) (sym e)) s)
+filled-keep f d i r l e s =
+    subst (Filled f d (i + 1)) (set-getD r i 0) (filled-next f d i r (getD r i 0) l (s .told i l ∙ rw (le-ltb i i (omega arith)) (sym e)) s)
 
 -- filled as far as i, it is what g gives
 pub filled-end : (f g : ℕ → ℕ) (d i : ℕ) (r : List ℕ) → ((j : ℕ) → j < 31 → cond (ltb j i) (f j) d ≡ g j) → Filled f d i r → r ≡ tabulate g 31

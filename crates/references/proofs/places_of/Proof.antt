@@ -66,9 +66,12 @@ returns c =
     let a = b .before .before .args in
     let t = a .table .now in
     let e : l .loop .i ≡ min (a .n) 31 = omega (arith, k .smaller .ensures) in
-    let name : x .name-of .result ≡ nameOf (decode first (recordAt first t (a .p))) = x .name-of .ensures ∙ ap (λ v. nameOf (decode first v)) (b .part .ensures .bytes) in
-    let round : r .round-before .result ≡ pred (decode first (recordAt first t (a .p)) .round) = r .round-before .ensures ∙ ap (λ (y : Name). pred (y .round)) name in
-    let refs : f .refs-of .result ≡ decode first (recordAt first t (a .p)) .refs = f .refs-of .ensures ∙ ap (λ v. decode first v .refs) (b .part .ensures .bytes) in
+    let name : x .name-of .result ≡ nameOf (decode first (recordAt first t (a .p))) =
+    x .name-of .ensures ∙ ap (λ v. nameOf (decode first v)) (b .part .ensures .bytes) in
+    let round : r .round-before .result ≡ pred (decode first (recordAt first t (a .p)) .round) =
+    r .round-before .ensures ∙ ap (λ (y : Name). pred (y .round)) name in
+    let refs : f .refs-of .result ≡ decode first (recordAt first t (a .p)) .refs =
+    f .refs-of .ensures ∙ ap (λ v. decode first v .refs) (b .part .ensures .bytes) in
     rw (← round, ← refs)
     (filled-end (place t (a .p) (r .round-before .result) (f .refs-of .result)) _ (a .p) (l .loop .i) (l .loop .places)
     (λ j h. ap (λ y. cond y (place t (a .p) (r .round-before .result) (f .refs-of .result) j) (a .p)) (first-few (a .n) (l .loop .i) j e h)) (l .loop .inv .1))

@@ -8,7 +8,6 @@ use lib.ListN.{length, set}
 use Rattle.rules.specs.declared.Name.{Name}
 use Rattle.rules.specs.Record.{first, vertices}
 use Rattle.rules.proofs.Records.{vertices-length}
-use Rattle.rules.proofs.Accepted.{accepted}
 use Rattle.settlement.proofs.Counting.{splits, splits-start, splits-apart, splits-more, splits-end, named-at, author-few}
 use native.Mathlib.Omega.{arith}
 use borrow.Author.Needs.{needs}

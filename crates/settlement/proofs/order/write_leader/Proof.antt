@@ -4,7 +4,6 @@ use Prim.Native.Nat.{_+_, _≤_, _<_}
 use native.Mathlib.Omega.{arith}
 use lib.ListN.{length}
 use Rattle.folds.specs.Folds.{countTo}
-use Rattle.rules.proofs.Accepted.{accepted}
 use Rattle.settlement.specs.Write.{due}
 use Rattle.decide.proofs.Marked.{by-references}
 use Rattle.settlement.proofs.Writing.{marked-length, led-room, led}

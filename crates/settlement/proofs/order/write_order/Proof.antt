@@ -6,7 +6,6 @@ use mathlib.Core.Path.{_≡_, sym, ap, _∙_}
 use mathlib.Core.Logic.{⊎-elim}
 use lib.ListN.{length, getD}
 use Rattle.rules.specs.Record.{first, vertices}
-use Rattle.rules.proofs.Accepted.{accepted}
 use Rattle.folds.proofs.Over.{over-at}
 use Rattle.rules.specs.Decide.{boxSetting, highest}
 use Rattle.rules.proofs.Decide.{decisions-length}

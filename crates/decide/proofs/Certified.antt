@@ -32,7 +32,8 @@ use Rattle.tally.proofs.Marks.{enough-is, enough-some}
 use Rattle.decide.specs.Certify.{backs, certifiedAt}
 
 -- the search by halves of the code
-pub found-is : {n : ℕ} (t : List ℕ) (x : Name) (p : ℕ) → Accepted n (vertices first t) → p ≡ findBelow t (min (records first t) (records first t)) x → p ≡ find (vertices first t) x
+pub found-is : {n : ℕ} (t : List ℕ) (x : Name) (p : ℕ) → Accepted n (vertices first t) → p ≡ findBelow t (min (records first t) (records first t)) x
+    → p ≡ find (vertices first t) x
 found-is {n} t x p A e =
     let q : min (records first t) (records first t) ≡ records first t = omega arith in
     e ∙ rw q (find-below n t x A)
@@ -78,8 +79,15 @@ module _ {n : ℕ} {vs : List Vertex} (A : Accepted n vs) where
     unfolding backs
     backs-low i l = getD-tabulate backed 31 i 0 l
 
+    past-none : (i : ℕ) → n ≤ i → backed i ≡ 0
+    past-none i l = backs-none i (eqb-true _ _ (passed _ (λ f. absurd (omega (arith, entry-low A w i lw (eqb-false _ _ f))))))
+
     backs-past : (i : ℕ) → n ≤ i → i < 31 → getD marks i 0 ≡ 0
-    backs-past i l h = backs-low i h ∙ backs-none i (eqb-true _ _ (passed _ (λ f. absurd (omega (arith, entry-low A w i lw (eqb-false _ _ f))))))
+    backs-past i l h = backs-low i h ∙ past-none i l
+
+    -- those of the n authors are all
+    pub backs-few : (i : ℕ) → cond (ltb i n) (backed i) 0 ≡ backed i
+    backs-few i = by-test (ltb i n) (λ e. rw e) (λ e. rw e (sym (past-none i (ltb-false i n e))))
 
     -- how many back a mark
     pub backs-count : (mark : ℕ) → mark ≢ 0 → countMark marks mark ≡ countTo (λ i. eqb (backed i) mark) n
@@ -93,22 +101,23 @@ module _ {n : ℕ} {vs : List Vertex} (A : Accepted n vs) where
 
     -- at most one mark is backed by a quorum
     pub one-mark : (m m′ : ℕ) → m ≢ 0 → m′ ≢ 0 → quorum n ≤ countMark marks m → quorum n ≤ countMark marks m′ → m ≡ m′
-    one-mark m m′ d d′ h h′ = go (count-witness (λ i. eqb (backed i) m and eqb (backed i) m′) n some)
+    one-mark m m′ d d′ h h′ = shared (count-witness (λ i. eqb (backed i) m and eqb (backed i) m′) n some)
       where
         some : 0 < countTo (λ i. eqb (backed i) m and eqb (backed i) m′) n
         some = omega (arith, A .count, backs-count m d, backs-count m′ d′, count-and (λ i. eqb (backed i) m) (λ i. eqb (backed i) m′) n)
 
-        go : (i : ℕ) × (i < n) × (eqb (backed i) m and eqb (backed i) m′ ≡ true) → m ≡ m′
-        go (i, l, t) = sym (eqb-true _ _ (and-left _ _ t)) ∙ eqb-true _ _ (and-right _ _ t)
+        shared : (i : ℕ) × (i < n) × (eqb (backed i) m and eqb (backed i) m′ ≡ true) → m ≡ m′
+        shared (i, l, t) = sym (eqb-true _ _ (and-left _ _ t)) ∙ eqb-true _ _ (and-right _ _ t)
 
     -- some reference backs a mark that a quorum backs
     some-mark : (m : ℕ) → m ≢ 0 → quorum n ≤ countMark marks m → enoughOf marks (quorum n) ≡ m
-    some-mark m d h = go (count-witness (λ i. eqb (backed i) m) n (omega (arith, backs-count m d)))
+    some-mark m d h = backer (count-witness (λ i. eqb (backed i) m) n (omega (arith, backs-count m d)))
       where
-        go : (i : ℕ) × (i < n) × (eqb (backed i) m ≡ true) → enoughOf marks (quorum n) ≡ m
-        go (i, l, t) =
+        backer : (i : ℕ) × (i < n) × (eqb (backed i) m ≡ true) → enoughOf marks (quorum n) ≡ m
+        backer (i, l, t) =
             let is : getD marks i 0 ≡ m = backs-low i (omega (arith, A .few)) ∙ eqb-true _ _ t in
-            let found : enoughOf marks (quorum n) ≢ 0 = enough-some marks (quorum n) i (omega (arith, A .few)) (λ z. d (sym is ∙ z)) (subst (λ k. quorum n ≤ countMark marks k) (sym is) h) in
+            let found : enoughOf marks (quorum n) ≢ 0 =
+            enough-some marks (quorum n) i (omega (arith, A .few)) (λ z. d (sym is ∙ z)) (subst (λ k. quorum n ≤ countMark marks k) (sym is) h) in
             one-mark (enoughOf marks (quorum n)) m found d (enough-is marks (quorum n) found) h
 
     -- ---- certificates by marks
@@ -117,7 +126,8 @@ module _ {n : ℕ} {vs : List Vertex} (A : Accepted n vs) where
     v = at vs w
 
     -- a reference backs the mark of a vertex exactly when it is to a supporter
-    back-supports : (b : Vertex) (i : ℕ) → b .author ≡ leader → v .round ≡ b .round + 2 → b .mark ≢ 0 → refers v i and supports (vertexOf vs (entryName v i)) b ≡ eqb (backed i) (b .mark)
+    back-supports : (b : Vertex) (i : ℕ) → b .author ≡ leader → v .round ≡ b .round + 2 → b .mark ≢ 0
+        → refers v i and supports (vertexOf vs (entryName v i)) b ≡ eqb (backed i) (b .mark)
     unfolding supports
     back-supports b i a e d = both-ways _ _ (λ t. there (and-right _ _ t)) (λ t. back (eqb-true _ _ t))
       where
@@ -132,14 +142,16 @@ module _ {n : ℕ} {vs : List Vertex} (A : Accepted n vs) where
             let marked : entry v i ≢ 0 = λ z. filled (backs-none i z) in
             and-true _ _ (is-not (ne-eqb _ _ marked)) (is-references _ (nameOf b) (record { one-up = up; marked = d; names = rw a h }))
 
-    pub certifies-marks : (b : Vertex) → b .author ≡ leader → v .round ≡ b .round + 2 → b .mark ≢ 0 → certifies n vs v b ≡ leb (quorum n) (countMark marks (b .mark))
+    pub certifies-marks : (b : Vertex) → b .author ≡ leader → v .round ≡ b .round + 2 → b .mark ≢ 0
+        → certifies n vs v b ≡ leb (quorum n) (countMark marks (b .mark))
     unfolding certifies _and_
     certifies-marks b a e d = rw (eq-eqb _ _ e, backs-count (b .mark) d) (ap (leb (quorum n)) (count-same _ _ n (λ i l. back-supports b i a e d)))
 
     -- of a slot two rounds below
 
     module _ (round : ℕ) (e : v .round ≡ round + 2) where
-      certifies-slot : (p : ℕ) → p < length vs → at vs p .round ≡ round → at vs p .author ≡ leader → certifies n vs v (at vs p) ≡ leb (quorum n) (countMark marks (at vs p .mark))
+      certifies-slot : (p : ℕ) → p < length vs → at vs p .round ≡ round → at vs p .author ≡ leader
+          → certifies n vs v (at vs p) ≡ leb (quorum n) (countMark marks (at vs p .mark))
       certifies-slot p l r a = certifies-marks (at vs p) a (rw r e) (mark-pos A p l)
 
       -- the vertex of the mark that a quorum backs is the vertex of the slot that is certified
@@ -150,7 +162,8 @@ module _ {n : ℕ} {vs : List Vertex} (A : Accepted n vs) where
           m : ℕ
           m = enoughOf marks (quorum n)
 
-          there : (p : ℕ) → p < length vs → nameOf (at vs p) ≡ named round leader m → (eqb (at vs p .round) round and eqb (at vs p .author) leader) and certifies n vs v (at vs p) ≡ true
+          there : (p : ℕ) → p < length vs → nameOf (at vs p) ≡ named round leader m
+              → (eqb (at vs p .round) round and eqb (at vs p .author) leader) and certifies n vs v (at vs p) ≡ true
           there p l q =
               let r : at vs p .round ≡ round = ap (λ x. x .round) q in
               let a : at vs p .author ≡ leader = ap (λ x. x .author) q in
@@ -158,7 +171,8 @@ module _ {n : ℕ} {vs : List Vertex} (A : Accepted n vs) where
               let d : m ≢ 0 = λ z. mark-pos A p l (k ∙ z) in
               and-true _ _ (and-true _ _ (eq-eqb _ _ r) (eq-eqb _ _ a)) (certifies-slot p l r a ∙ rw k (le-leb _ _ (enough-is marks (quorum n) d)))
 
-          back : (p : ℕ) → p < length vs → (eqb (at vs p .round) round and eqb (at vs p .author) leader) and certifies n vs v (at vs p) ≡ true → sameName (nameOf (at vs p)) (named round leader m) ≡ true
+          back : (p : ℕ) → p < length vs → (eqb (at vs p .round) round and eqb (at vs p .author) leader) and certifies n vs v (at vs p) ≡ true
+              → sameName (nameOf (at vs p)) (named round leader m) ≡ true
           back p l t =
               let r : at vs p .round ≡ round = eqb-true _ _ (and-left _ _ (and-left _ _ t)) in
               let a : at vs p .author ≡ leader = eqb-true _ _ (and-right _ _ (and-left _ _ t)) in
@@ -166,7 +180,8 @@ module _ {n : ℕ} {vs : List Vertex} (A : Accepted n vs) where
               name-same _ _ (name-path _ _ r a (sym (some-mark (at vs p .mark) (mark-pos A p l) h)))
 
       -- of a vertex of the slot, it is the one found exactly when it is certified
-      pub certified-test : (p : ℕ) → p < length vs → at vs p .round ≡ round → at vs p .author ≡ leader → eqb (certifiedAt n vs round leader w) p ≡ certifies n vs v (at vs p)
+      pub certified-test : (p : ℕ) → p < length vs → at vs p .round ≡ round → at vs p .author ≡ leader
+          → eqb (certifiedAt n vs round leader w) p ≡ certifies n vs v (at vs p)
       certified-test p l r a = both-ways _ _ (λ t. there (eqb-true _ _ t)) (λ t. eq-eqb _ _ (back t))
         where
           there : certifiedAt n vs round leader w ≡ p → certifies n vs v (at vs p) ≡ true
@@ -180,10 +195,13 @@ module _ {n : ℕ} {vs : List Vertex} (A : Accepted n vs) where
 
 -- what is read where the references of the vertex at w stand
 module _ {n : ℕ} (t : List ℕ) (A : Accepted n (vertices first t)) (w leader : ℕ) (lw : w < length (vertices first t)) where
-  pub backed-at : (i q b : ℕ) → i < 31 → q ≡ getD (placesOf t w) i 0 → b ≡ cond (ltb q w) (entry (at (vertices first t) q) leader) 0
+  pub backed-at : (i q b : ℕ) → i < 31 → q ≡ getD (placesOf n t w) i 0 → b ≡ cond (ltb q w) (entry (at (vertices first t) q) leader) 0
       → b ≡ entry (vertexOf (vertices first t) (entryName (at (vertices first t) w) i)) leader
   unfolding vertexOf
-  backed-at i q b li is e = by-test (ltb q w) (λ h. e ∙ rw h (low (rw is at (ltb-true q w h)))) (λ h. e ∙ rw h (sym (backs-none A w leader lw i (no-reference t A w lw i li (rw is at (ltb-false q w h))))))
+  backed-at i q b li is e =
+      by-test (ltb q w) (λ h. e ∙ rw h (low (rw is at (ltb-true q w h))))
+      (λ h. e ∙ rw h (sym (backs-none A w leader lw i (no-reference t A w lw i li (rw is at (ltb-false q w h))))))
     where
-      low : getD (placesOf t w) i 0 < w → entry (at (vertices first t) q) leader ≡ entry (vertexOf (vertices first t) (entryName (at (vertices first t) w) i)) leader
+      low : getD (placesOf n t w) i 0 < w
+          → entry (at (vertices first t) q) leader ≡ entry (vertexOf (vertices first t) (entryName (at (vertices first t) w) i)) leader
       low h = rw (is, reference-at t A w lw i li h .place)

@@ -72,7 +72,8 @@ module _ {n : ℕ} {vs : List Vertex} (A : Accepted n vs) (r a : ℕ) (pass : Ve
   before-none : (p : ℕ) → FailTo vs pass (startOf vs r a) p → p ≤ startOf vs r (a + 1) → (i : ℕ) → i < length vs → (i < p) → inTest i ≡ false
   before-none p f l i h k = failed _ (λ e. let s = slot-in A r a i (record { within = h; round = eqb-true _ _ (and-left _ _ (and-left _ _ e)); author = eqb-true _ _ (and-right _ _ (and-left _ _ e)) }) in not-both (and-right _ _ e) (f i (s .from-on) k))
 
-  pub first-in-found : (p : ℕ) → startOf vs r a ≤ p → p < startOf vs r (a + 1) → FailTo vs pass (startOf vs r a) p → pass (at vs p) ≡ true → p ≡ firstIn vs r a pass
+  pub first-in-found : (p : ℕ) → startOf vs r a ≤ p → p < startOf vs r (a + 1) → FailTo vs pass (startOf vs r a) p → pass (at vs p) ≡ true
+      → p ≡ firstIn vs r a pass
   unfolding firstIn
   first-in-found p l h f e =
       let s = in-slot A r a p l h in

@@ -71,7 +71,8 @@ module _ (n : ℕ) (t : List ℕ) (b : Buffers) where
           record { sound = sound first n t passes; room = omega (arith, long, all-records) }
 
       pub decided-to : highest vs ≤ length (b .cells) → k ≤ length (b .order) → k ≤ length (b .taken) → (cells taken : List ℕ)
-          → cells ≡ writtenOver (map cell (decisions (boxSetting n) n vs)) (b .cells) → taken ≡ bytesOver (λ p. 0) k (b .taken) → DecidesTo n t b Passed cells taken
+          → cells ≡ writtenOver (map cell (decisions (boxSetting n) n vs)) (b .cells) → taken ≡ bytesOver (λ p. 0) k (b .taken)
+          → DecidesTo n t b Passed cells taken
       unfolding cellsAfter takenAfter tooShort lentCheck
       decided-to c o l cells taken e f = record {
         answer = sym (then-passed _ _ passes ∙ when-no _ _ (or-false _ _ (le-ltb _ _ c) (or-false _ _ (le-ltb (length (b .order)) (length vs) (omega (arith, o, all-records))) (le-ltb (length (b .taken)) (length vs) (omega (arith, l, all-records))))));

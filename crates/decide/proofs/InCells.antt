@@ -60,8 +60,10 @@ module _ {n : ℕ} {vs : List Vertex} (A : Accepted n vs) (round : ℕ) (pos : 0
   through-cell a p e = choose-cell (certifiedIn n vs (history references vs a)) skipped p e
 
   -- and the walk to the anchor is in hand then
-  pub through-told : (a b : ℕ) → b ≡ firstIn vs round (leader n round) (certifiedIn n vs (history references vs a)) → (k : ℕ) → k ≡ length vs → (c : ℕ) → c ≡ cond (ltb b k) (2 + b) 1
-      → (old new : List ℕ) (a′ p′ : ℕ) → length new ≡ length old → a′ ≡ a → Swept references vs a p′ new → Told references vs (throughAnchor (boxSetting n) n vs (round - 1) a) old c a′ p′ new
+  pub through-told : (a b : ℕ) → b ≡ firstIn vs round (leader n round) (certifiedIn n vs (history references vs a)) → (k : ℕ) → k ≡ length vs → (c : ℕ)
+      → c ≡ cond (ltb b k) (2 + b) 1
+      → (old new : List ℕ) (a′ p′ : ℕ) → length new ≡ length old → a′ ≡ a → Swept references vs a p′ new
+      → Told references vs (throughAnchor (boxSetting n) n vs (round - 1) a) old c a′ p′ new
   through-told a b is k size c e old new a′ p′ len same S = record {
     same-length = len;
     in-cell = e ∙ ap (λ j. cond (ltb b j) (2 + b) 1) size ∙ sym (through-cell a b is);
@@ -69,7 +71,8 @@ module _ {n : ℕ} {vs : List Vertex} (A : Accepted n vs) (round : ℕ) (pos : 0
   }
 
 -- other tags are the same walk
-pub walked-retagged : {n : ℕ} {vs : List Vertex} → Accepted n vs → (a p : ℕ) (m m′ : List ℕ) → Retagged m m′ → Walked references vs a p m → Walked references vs a p m′
+pub walked-retagged : {n : ℕ} {vs : List Vertex} → Accepted n vs → (a p : ℕ) (m m′ : List ℕ) → Retagged m m′ → Walked references vs a p m
+    → Walked references vs a p m′
 walked-retagged A a p m m′ r w l = swept-retagged A (by-references A) a p m m′ r (w l)
 
 pub leader-low : (n r : ℕ) → 0 < n → leader n r < n
@@ -131,7 +134,8 @@ module _ (n : ℕ) (vs : List Vertex) (old : List ℕ) where
   cells-start = record { same-length = refl; decided = λ u l h. absurd (omega arith); kept = λ u l. refl }
 
   module _ (fits : highest vs ≤ length old) where
-    pub cells-next : (round c : ℕ) (m : List ℕ) → 0 < round → round ≤ highest vs → c ≡ cell (decisionAt (decisions (boxSetting n) n vs) (round - 1)) → CellsFrom n vs round old m
+    pub cells-next : (round c : ℕ) (m : List ℕ) → 0 < round → round ≤ highest vs → c ≡ cell (decisionAt (decisions (boxSetting n) n vs) (round - 1))
+        → CellsFrom n vs round old m
         → CellsFrom n vs (round - 1) old (set m (round - 1) c)
     cells-next round c m pos low e C = record {
       same-length = length-set m (round - 1) c ∙ C .same-length;
@@ -146,7 +150,9 @@ module _ (n : ℕ) (vs : List Vertex) (old : List ℕ) where
         there u l h z = getD-set-other m (round - 1) u c 0 z ∙ C .decided u (omega (arith, z)) h
 
     pub cells-end : (m : List ℕ) → CellsFrom n vs 0 old m → m ≡ writtenOver (map cell (decisions (boxSetting n) n vs)) old
-    cells-end m C = ext-getD 0 m (writtenOver new old) (C .same-length ∙ sym whole) (λ i l. by-test (ltb i (highest vs)) (λ b. front i (ltb-true i (highest vs) b)) (λ b. back i (ltb-false i (highest vs) b)))
+    cells-end m C =
+        ext-getD 0 m (writtenOver new old) (C .same-length ∙ sym whole)
+        (λ i l. by-test (ltb i (highest vs)) (λ b. front i (ltb-true i (highest vs) b)) (λ b. back i (ltb-false i (highest vs) b)))
       where
         new : List ℕ
         new = map cell all
@@ -158,12 +164,14 @@ module _ (n : ℕ) (vs : List Vertex) (old : List ℕ) where
         whole = length-append new (drop (length new) old) ∙ simp length-drop (omega (arith, size))
 
         front : (i : ℕ) → i < highest vs → getD m i 0 ≡ getD (writtenOver new old) i 0
-        front i h = C .decided i (omega arith) h ∙ sym (List·getD-append new (drop (length new) old) 0 i (omega (arith, size)) ∙ List·getD-map cell all i undecided)
+        front i h =
+            C .decided i (omega arith) h ∙ sym (List·getD-append new (drop (length new) old) 0 i (omega (arith, size)) ∙ List·getD-map cell all i undecided)
 
         back : (i : ℕ) → highest vs ≤ i → getD m i 0 ≡ getD (writtenOver new old) i 0
         back i h =
             let e : length new + (i - length new) ≡ i = omega (arith, size) in
-            let q : getD (writtenOver new old) (length new + (i - length new)) 0 ≡ getD old (length new + (i - length new)) 0 = getD-append-add new (drop (length new) old) (i - length new) 0 ∙ getD-drop (length new) old (i - length new) 0 in
+            let q : getD (writtenOver new old) (length new + (i - length new)) 0 ≡ getD old (length new + (i - length new)) 0 =
+            getD-append-add new (drop (length new) old) (i - length new) 0 ∙ getD-drop (length new) old (i - length new) 0 in
             C .kept i h ∙ sym (rw e at q)
 
 -- ---- a round in hand, and its three ways
@@ -190,7 +198,8 @@ module _ {n : ℕ} {t : List ℕ} {round : ℕ} {cells : List ℕ} {a p : ℕ} {
     all-records = size ∙ sym (vertices-length first t)
 
     -- committed directly with the vertex at b
-    pub told-commit : (new : List ℕ) → Retagged work new → b < k → (c : ℕ) → c ≡ cond (ltb b k) (2 + b) 0 → Told references (vertices first t) decided work c a p new
+    pub told-commit : (new : List ℕ) → Retagged work new → b < k → (c : ℕ) → c ≡ cond (ltb b k) (2 + b) 0
+        → Told references (vertices first t) decided work c a p new
     told-commit new r l c e = record {
       same-length = r .same-length;
       in-cell = e ∙ ap (λ j. cond (ltb b j) (2 + b) 0) all-records ∙ sym (direct-cell passed round (I .from-one) (I .low) b is (omega (arith, l, all-records)));

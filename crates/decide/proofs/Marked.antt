@@ -140,7 +140,8 @@ module _ {n : ℕ} {vs : List Vertex} {step : StepRule} (A : Accepted n vs) (W :
 
     -- one position more: what the vertex there references, if it belongs
     pub marked-next : (p q : ℕ) → H p ≡ true → markedFrom step vs a p q ≡ markedFrom step vs a (suc p) q or steps p q
-    marked-next p q t = both-ways _ _ (λ e. to (marked-is p q e)) (λ e. ⊎-elim (λ k. up (marked-is (suc p) q k)) (λ k. marked-by p q p (le-refl p) t k) (or-cases _ _ e))
+    marked-next p q t =
+        both-ways _ _ (λ e. to (marked-is p q e)) (λ e. ⊎-elim (λ k. up (marked-is (suc p) q k)) (λ k. marked-by p q p (le-refl p) t k) (or-cases _ _ e))
       where
         to : (q ≡ a) ⊎ ((j : ℕ) × (p ≤ j) × (H j ≡ true) × (steps j q ≡ true)) → markedFrom step vs a (suc p) q or steps p q ≡ true
         to (inl e) = or-left _ _ (marked-self (suc p) q e)
@@ -204,7 +205,9 @@ module _ {n : ℕ} {vs : List Vertex} (A : Accepted n vs) (p : ℕ) (l : p < len
           rw e (is-references (at vs p) (entryName (at vs p) i) (record { one-up = sym level; marked = f; names = refl }))
 
       pub named-next : (q : ℕ) → q < length vs → namedTo vs p (i + 1) q ≡ namedTo vs p i q or eqb q (find vs (entryName (at vs p) i))
-      named-next q lq = both-ways _ _ (λ e. ⊎-elim (λ k. or-left _ _ k) (λ k. or-right _ _ (is (k .0) (k .1))) (down q e)) (λ e. ⊎-elim (up q) (λ k. that (eqb-true q _ k)) (or-cases _ _ e))
+      named-next q lq =
+          both-ways _ _ (λ e. ⊎-elim (λ k. or-left _ _ k) (λ k. or-right _ _ (is (k .0) (k .1))) (down q e))
+          (λ e. ⊎-elim (up q) (λ k. that (eqb-true q _ k)) (or-cases _ _ e))
         where
           is : references (at vs p) (nameOf (at vs q)) ≡ true → at vs q .author ≡ i → eqb q (find vs (entryName (at vs p) i)) ≡ true
           is e h = eq-eqb q _ (sym (find-at A q lq) ∙ ap (find vs) (sym (names q e h)))

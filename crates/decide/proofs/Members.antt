@@ -60,7 +60,8 @@ first-or f g h k e = first-by h k (min x y) (record { within = omega (arith, F .
 -- Where the first vertex of the slot stands that a member below w certifies.
 unfoldable pub toldBelow : ℕ → List Vertex → List Bool → (round leader w : ℕ) → ℕ
 toldBelow n vs h round leader w =
-    firstTo (λ p. (eqb (at vs p .round) round and eqb (at vs p .author) leader) and anyTo (λ q. getD h q false and certifies n vs (at vs q) (at vs p)) w) (length vs)
+    firstTo (λ p. (eqb (at vs p .round) round and eqb (at vs p .author) leader) and anyTo (λ q. getD h q false and certifies n vs (at vs q) (at vs p)) w)
+    (length vs)
 
 module _ {n : ℕ} {vs : List Vertex} (A : Accepted n vs) (round leader a : ℕ) (la : a < length vs) where
   abbrev h : List Bool
@@ -81,10 +82,10 @@ module _ {n : ℕ} {vs : List Vertex} (A : Accepted n vs) (round leader a : ℕ)
 
   pub told-start : below (startOf vs (round + 2) 0) ≡ length vs
   unfolding toldBelow
-  told-start = first-none _ (length vs) (λ p l. failed _ (λ e. go p (and-left _ _ e) (any-witness _ _ (and-right _ _ e))))
+  told-start = first-none _ (length vs) (λ p l. failed _ (λ e. no-teller p (and-left _ _ e) (any-witness _ _ (and-right _ _ e))))
     where
-      go : (p : ℕ) → slot p ≡ true → (q : ℕ) × (q < startOf vs (round + 2) 0) × (tells p q ≡ true) → ⊥
-      go p s (q, lq, e) =
+      no-teller : (p : ℕ) → slot p ≡ true → (q : ℕ) × (q < startOf vs (round + 2) 0) × (tells p q ≡ true) → ⊥
+      no-teller p s (q, lq, e) =
           let u : q < length vs = omega (arith, start-bound A (round + 2) 0) in
           omega (arith, round-in A (round + 2) q (record { within = u; round = two-up p q s e }) .from-on)
 
@@ -137,7 +138,8 @@ module _ {n : ℕ} {vs : List Vertex} (A : Accepted n vs) (round leader a : ℕ)
       from p s (q, lq, e) = any-intro _ _ q (under q (record { within = omega (arith, size); round = two-up p q s e })) e
 
   -- what the bytes tell of a vertex two rounds up, if all from three rounds up are looked at
-  pub told-byte : (done : ℕ) (m : List ℕ) → Swept references vs a done m → done ≤ startOf vs (round + 3) 0 → (q : ℕ) → InRound vs (round + 2) q → historyAt m q ≡ bit (getD h q false)
+  pub told-byte : (done : ℕ) (m : List ℕ) → Swept references vs a done m → done ≤ startOf vs (round + 3) 0 → (q : ℕ) → InRound vs (round + 2) q
+      → historyAt m q ≡ bit (getD h q false)
   told-byte done m S low q r = S .told q (r .within) ∙ ap bit (marked-far A (by-references A) a la done q (r .within) above)
     where
       above : (j : ℕ) → j ≤ a → q < j → references (at vs j) (nameOf (at vs q)) ≡ true → done ≤ j

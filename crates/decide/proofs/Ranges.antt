@@ -106,7 +106,7 @@ module _ {n : ℕ} {vs : List Vertex} (A : Accepted n vs) where
   -- ---- the records of a round and author stand side by side
 
   pub in-slot : (r a q : ℕ) → startOf vs r a ≤ q → q < startOf vs r (a + 1) → InSlot vs r a q
-  in-slot r a q l h = go (start-under r (a + 1) q h)
+  in-slot r a q l h = by-case (start-under r (a + 1) q h)
     where
       lq : q < length vs
       lq = omega (arith, start-bound r (a + 1))
@@ -114,9 +114,9 @@ module _ {n : ℕ} {vs : List Vertex} (A : Accepted n vs) where
       not-under : Under (at vs q) r a → ⊥
       not-under u = omega (arith, under-start r a q lq u)
 
-      go : Under (at vs q) r (a + 1) → InSlot vs r a q
-      go (inl u) = absurd (not-under (inl u))
-      go (inr (e, u)) =
+      by-case : Under (at vs q) r (a + 1) → InSlot vs r a q
+      by-case (inl u) = absurd (not-under (inl u))
+      by-case (inr (e, u)) =
           by-test (ltb (at vs q .author) a)
           (λ b. absurd (not-under (inr (e, ltb-true _ _ b))))
           (λ b. record { within = lq; round = e; author = omega (arith, ltb-false (at vs q .author) a b) })
@@ -134,14 +134,14 @@ module _ {n : ℕ} {vs : List Vertex} (A : Accepted n vs) where
   -- ---- and those of a round
 
   pub in-round : (r q : ℕ) → startOf vs r 0 ≤ q → q < startOf vs (r + 1) 0 → InRound vs r q
-  in-round r q l h = go (start-under (r + 1) 0 q h)
+  in-round r q l h = by-case (start-under (r + 1) 0 q h)
     where
       lq : q < length vs
       lq = omega (arith, start-bound (r + 1) 0)
 
-      go : Under (at vs q) (r + 1) 0 → InRound vs r q
-      go (inr (e, u)) = absurd (omega arith)
-      go (inl u) =
+      by-case : Under (at vs q) (r + 1) 0 → InRound vs r q
+      by-case (inr (e, u)) = absurd (omega arith)
+      by-case (inl u) =
           by-test (ltb (at vs q .round) r)
           (λ b. absurd (omega (arith, under-start r 0 q lq (inl (ltb-true _ _ b)))))
           (λ b. record { within = lq; round = omega (arith, ltb-false (at vs q .round) r b) })
@@ -157,9 +157,11 @@ module _ {n : ℕ} {vs : List Vertex} (A : Accepted n vs) where
       not-under (inr (e, u)) = omega arith
 
 -- the place that the search by halves of the code gives
-pub start-is : {n : ℕ} (t : List ℕ) → Accepted n (vertices first t) → (r a p : ℕ) → p ≡ placeOf t (min (records first t) (records first t)) (named r a 0) → p ≡ startOf (vertices first t) r a
+pub start-is : {n : ℕ} (t : List ℕ) → Accepted n (vertices first t) → (r a p : ℕ) → p ≡ placeOf t (min (records first t) (records first t)) (named r a 0)
+    → p ≡ startOf (vertices first t) r a
 unfolding startOf
 start-is {n} t A r a p e =
     let all : min (records first t) (records first t) ≡ records first t = omega arith in
-    let same : (i : ℕ) → i < records first t → not (below (nameAt t i) (named r a 0)) ≡ not (below (nameOf (at (vertices first t) i)) (named r a 0)) = λ i l. ap (λ x. not (below x (named r a 0))) (sym (name-at t i l)) in
+    let same : (i : ℕ) → i < records first t → not (below (nameAt t i) (named r a 0)) ≡ not (below (nameOf (at (vertices first t) i)) (named r a 0)) =
+    λ i l. ap (λ x. not (below x (named r a 0))) (sym (name-at t i l)) in
     e ∙ rw (all, vertices-length first t) (sym (first-by _ (records first t) _ (place-first t (named r a 0) (rise-all n t A))) ∙ first-same _ _ (records first t) same)

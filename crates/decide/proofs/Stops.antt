@@ -53,7 +53,8 @@ stop-low cells from top h = leb-true _ _ (and-left _ _ (first-is _ top .hit h))
 pub stop-start : (cells : List ℕ) (from u : ℕ) → from ≤ u → u < from → getD cells u 0 ≡ 1
 stop-start cells from u h l = absurd (omega arith)
 
-pub stop-more : (cells : List ℕ) (from t : ℕ) → ((u : ℕ) → from ≤ u → u < t → getD cells u 0 ≡ 1) → getD cells t 0 ≡ 1 → (u : ℕ) → from ≤ u → u < t + 1 → getD cells u 0 ≡ 1
+pub stop-more : (cells : List ℕ) (from t : ℕ) → ((u : ℕ) → from ≤ u → u < t → getD cells u 0 ≡ 1) → getD cells t 0 ≡ 1 → (u : ℕ) → from ≤ u → u < t + 1
+    → getD cells u 0 ≡ 1
 stop-more cells from t h e u l k = by-test (ltb u t) (λ b. h u l (ltb-true u t b)) (λ b. let q : u ≡ t = omega (arith, ltb-false u t b) in rw q e)
 
 -- ---- where the search stops, told by the cells
@@ -88,7 +89,8 @@ module _ {n : ℕ} {vs : List Vertex} (A : Accepted n vs) (round : ℕ) (pos : 0
 
         out : top ≤ k → Stopped cells (stopAt cells (round + 2) top)
         out h = subst (Stopped cells) (stop-none cells (round + 2) top (λ u lu h′. skips u lu (omega arith) h′)) (past (le-refl top) q)
-    stopped (anchored k a l f e q) = by-test (ltb k top) (λ b. here (ltb-true k top b)) (λ b. absurd (committed-decided e (decisions-past (boxSetting n) n vs k (ltb-false k top b))))
+    stopped (anchored k a l f e q) =
+        by-test (ltb k top) (λ b. here (ltb-true k top b)) (λ b. absurd (committed-decided e (decisions-past (boxSetting n) n vs k (ltb-false k top b))))
       where
         here : k < top → Stopped cells (stopAt cells (round + 2) top)
         here h =
@@ -128,10 +130,13 @@ module _ {n : ℕ} {vs : List Vertex} (A : Accepted n vs) (round : ℕ) (pos : 0
         let within : a < length vs = lead .0 in
         let up : at vs a .round ≡ k + 1 = slot-is (oneLeader n) k (at vs a) (lead .1) .at-round in
         let under : Under (at vs a) (round + 3) 0 → ⊥ = λ u. ⊎-elim (λ h. omega arith) (λ h. omega (arith, h .1)) u in
-        let above : startOf vs (round + 3) 0 ≤ a = by-test (ltb a (startOf vs (round + 3) 0)) (λ b. absurd (under (start-under A (round + 3) 0 a (ltb-true a (startOf vs (round + 3) 0) b)))) (λ b. ltb-false a (startOf vs (round + 3) 0) b) in
+        let above : startOf vs (round + 3) 0 ≤ a =
+        by-test (ltb a (startOf vs (round + 3) 0)) (λ b. absurd (under (start-under A (round + 3) 0 a (ltb-true a (startOf vs (round + 3) 0) b))))
+        (λ b. ltb-false a (startOf vs (round + 3) 0) b) in
         record { within = within; above = above; found = q }
 
-    pub anchor-found : (k : ℕ) → k ≡ 1 + stopAt cells (round + 2) top → k ≤ top → getD cells (k - 1) 0 ≢ 0 → (2 ≤ getD cells (k - 1) 0) × Anchor (getD cells (k - 1) 0 - 2)
+    pub anchor-found : (k : ℕ) → k ≡ 1 + stopAt cells (round + 2) top → k ≤ top → getD cells (k - 1) 0 ≢ 0
+        → (2 ≤ getD cells (k - 1) 0) × Anchor (getD cells (k - 1) 0 - 2)
     anchor-found k e h f = lead (stopped-at k e)
       where
         from-on : round + 2 ≤ k - 1

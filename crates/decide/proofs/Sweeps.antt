@@ -19,7 +19,7 @@ use Rattle.rules.specs.Support.{references}
 use Rattle.rules.specs.History.{StepRule, history}
 use Rattle.rules.proofs.Accepted.{Accepted}
 use Rattle.decide.specs.Work.{historyAt, Retagged}
-use Rattle.decide.specs.Sweep.{markedFrom, Swept}
+use Rattle.decide.specs.Sweep.{markedFrom, Swept, Handed}
 use Rattle.decide.proofs.Marked.{Walks, marked-history, marked-start, marked-next, marked-same, namedTo, named-none, named-all, named-same, named-next}
 
 -- ---- the bytes that tell of the history
@@ -44,7 +44,8 @@ byte-bit x h = by-test (eqb (x / 128) 1) (λ e. rw e (eqb-true (x / 128) 1 e)) (
     zero-is f = omega arith
 
 -- one byte more that tells of none
-pub forget-next : (m : List ℕ) (q b : ℕ) → q < length m → b ≡ getD m q 0 % 128 → ((i : ℕ) → i < q → historyAt m i ≡ 0) → (i : ℕ) → i < q + 1 → historyAt (set m q b) i ≡ 0
+pub forget-next : (m : List ℕ) (q b : ℕ) → q < length m → b ≡ getD m q 0 % 128 → ((i : ℕ) → i < q → historyAt m i ≡ 0) → (i : ℕ) → i < q + 1
+    → historyAt (set m q b) i ≡ 0
 forget-next m q b l e h i k = by-test (ltb i q) (λ t. rw (getD-set-other m q i b 0 (λ z. omega (arith, ltb-true i q t))) (h i (ltb-true i q t))) here
   where
     here : ltb i q ≡ false → historyAt (set m q b) i ≡ 0
@@ -68,7 +69,7 @@ pub marked-none : (vs : List Vertex) (p : ℕ) (m : List ℕ) → ((q : ℕ) →
 marked-none vs p m h q l = byte-bit (getD m q 0) (h q) ∙ ap bit (sym (or-none _) ∙ ap (λ b. eqb (historyAt m q) 1 or b) (sym (named-none vs p q)))
 
 module _ {n : ℕ} {vs : List Vertex} (A : Accepted n vs) (p : ℕ) (l : p < length vs) (old m : List ℕ) where
-  pub marked-all : (i : ℕ) → n ≤ i → MarkedTo vs p i old m → (q : ℕ) → q < length vs → historyAt m q ≡ bit (eqb (historyAt old q) 1 or references (at vs p) (nameOf (at vs q)))
+  pub marked-all : (i : ℕ) → n ≤ i → MarkedTo vs p i old m → Handed references vs p old m
   marked-all i h M q lq = M q lq ∙ ap (λ b. bit (eqb (historyAt old q) 1 or b)) (named-all A p l i q h lq)
 
   -- entry i is 0
@@ -114,9 +115,7 @@ module _ {n : ℕ} {vs : List Vertex} {step : StepRule} (A : Accepted n vs) (W :
         out = bit-no _ (sym (swept-history (suc p) m S p (omega (arith, S .low, S .within)) (le-refl (suc p))) ∙ omega arith)
 
     -- it does, and what it steps to is marked too
-    pub swept-next : (m′ : List ℕ) → 128 ≤ getD m p 0
-        → ((q : ℕ) → q < length vs → historyAt m′ q ≡ bit (eqb (historyAt m q) 1 or step (at vs p) (nameOf (at vs q))))
-        → Swept step vs a p m′
+    pub swept-next : (m′ : List ℕ) → 128 ≤ getD m p 0 → Handed step vs p m m′ → Swept step vs a p m′
     swept-next m′ h k = record {
       within = S .within;
       low = omega (arith, S .low);

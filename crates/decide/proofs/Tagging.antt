@@ -22,7 +22,7 @@ use Rattle.rules.proofs.Accepted.{Accepted}
 use Rattle.rules.proofs.Support.{blank-is, is-blank, certifies-is}
 use Rattle.decide.specs.Range.{startOf}
 use Rattle.decide.specs.Certify.{certifiedAt}
-use Rattle.decide.specs.Work.{historyAt, tagAt, Retagged, Tagged, authorsTagged, windowTag}
+use Rattle.decide.specs.Work.{Window, historyAt, tagAt, Retagged, Tagged, authorsTagged, windowTag}
 use Rattle.decide.proofs.Ranges.{InSlot, in-slot, slot-in, round-in}
 use Rattle.decide.proofs.Certified.{certified-test}
 
@@ -42,7 +42,8 @@ pub record TaggedTo (from : ℕ) (tag : ℕ → ℕ) (old : List ℕ) (q : ℕ) 
 pub tagged-start : (from : ℕ) (tag : ℕ → ℕ) (m : List ℕ) → TaggedTo from tag m from m
 tagged-start from tag m = record { retagged = retagged-same m; tags = λ j l h. absurd (omega arith) }
 
-pub tagged-next : (from : ℕ) (tag : ℕ → ℕ) (old : List ℕ) (q : ℕ) (new : List ℕ) (byte : ℕ) → q < length new → byte / 128 ≡ historyAt new q → byte % 128 ≡ tag q → TaggedTo from tag old q new → TaggedTo from tag old (q + 1) (set new q byte)
+pub tagged-next : (from : ℕ) (tag : ℕ → ℕ) (old : List ℕ) (q : ℕ) (new : List ℕ) (byte : ℕ) → q < length new → byte / 128 ≡ historyAt new q → byte % 128 ≡ tag q
+    → TaggedTo from tag old q new → TaggedTo from tag old (q + 1) (set new q byte)
 tagged-next from tag old q new byte l h e t = record {
   retagged = retagged-on old new (set new q byte) (t .retagged) (record { same-length = length-set new q byte; history-kept = λ j. by-test (eqb j q) (λ b. kept j (eqb-true j q b)) (λ b. ap (λ x. x / 128) (other j (eqb-false j q b))) });
   tags = λ j f b. by-test (eqb j q) (λ s. here j (eqb-true j q s)) (λ s. ap (λ x. x % 128) (other j (eqb-false j q s)) ∙ t .tags j f (omega (arith, eqb-false j q s)));
@@ -109,7 +110,9 @@ window-test c p b e l h = both-ways _ _ there (λ t. let q : c ≡ p = eqb-true 
 
 -- and no tag is above 127 in a window of 127
 pub window-small : (c b e : ℕ) → e ≤ b + 127 → windowTag c b e < 128
-window-small c b e l = by-test (ltb c b) (λ f. rw f (omega arith)) (λ f. by-test (ltb c e) (λ g. rw (f, g) (omega (arith, ltb-false c b f, ltb-true c e g))) (λ g. rw (f, g) (omega arith)))
+window-small c b e l =
+    by-test (ltb c b) (λ f. rw f (omega arith))
+    (λ f. by-test (ltb c e) (λ g. rw (f, g) (omega (arith, ltb-false c b f, ltb-true c e g))) (λ g. rw (f, g) (omega arith)))
 
 -- author a has a vertex of round k with the tag
 abbrev pub authorTagged : List Vertex → (k tag : ℕ) → List ℕ → ℕ → Bool
@@ -119,7 +122,8 @@ authorTagged vs k tag m a = anyTo (λ q. (eqb (at vs q .round) k and eqb (at vs 
 
 module _ {n : ℕ} {vs : List Vertex} (A : Accepted n vs) where
   -- all bytes of the round are tagged
-  pub tagged-end : (k k′ from : ℕ) (tag : ℕ → ℕ) (old new : List ℕ) (q : ℕ) → k′ ≡ k + 1 → from ≡ startOf vs k 0 → startOf vs k′ 0 ≤ q → TaggedTo from tag old q new
+  pub tagged-end : (k k′ from : ℕ) (tag : ℕ → ℕ) (old new : List ℕ) (q : ℕ) → k′ ≡ k + 1 → from ≡ startOf vs k 0 → startOf vs k′ 0 ≤ q
+      → TaggedTo from tag old q new
       → Tagged vs k tag old new
   tagged-end k k′ from tag old new q u f l s = record {
     retagged = s .retagged;
@@ -141,13 +145,17 @@ module _ {n : ℕ} {vs : List Vertex} (A : Accepted n vs) where
           let h = in-slot A k a (s + i) (omega arith) (omega arith) in
           any-intro _ (length vs) (s + i) (h .within) (and-true _ _ (and-true _ _ (eq-eqb _ _ (h .round)) (eq-eqb _ _ (h .author))) e)
 
-      back : (q : ℕ) × (q < length vs) × ((eqb (at vs q .round) k and eqb (at vs q .author) a) and eqb (tagAt m q) tag ≡ true) → anyTo (taggedFrom m s tag) (startOf vs k (a + 1) - s) ≡ true
+      back : (q : ℕ) × (q < length vs) × ((eqb (at vs q .round) k and eqb (at vs q .author) a) and eqb (tagAt m q) tag ≡ true)
+          → anyTo (taggedFrom m s tag) (startOf vs k (a + 1) - s) ≡ true
       back (q, l, e) =
-          let i = slot-in A k a q (record { within = l; round = eqb-true _ _ (and-left _ _ (and-left _ _ e)); author = eqb-true _ _ (and-right _ _ (and-left _ _ e)) }) in
+          let i =
+          slot-in A k a q
+          (record { within = l; round = eqb-true _ _ (and-left _ _ (and-left _ _ e)); author = eqb-true _ _ (and-right _ _ (and-left _ _ e)) }) in
           tag-found m s tag q (i .from-on) (startOf vs k (a + 1)) (i .up-to) (eqb-true _ _ (and-right _ _ e))
 
   -- and they count once
-  pub author-once : (k tag a : ℕ) (m : List ℕ) → min (countTo (taggedFrom m (startOf vs k a) tag) (startOf vs k (a + 1) - startOf vs k a)) 1 ≡ bit (authorTagged vs k tag m a)
+  pub author-once : (k tag a : ℕ) (m : List ℕ)
+      → min (countTo (taggedFrom m (startOf vs k a) tag) (startOf vs k (a + 1) - startOf vs k a)) 1 ≡ bit (authorTagged vs k tag m a)
   author-once k tag a m = one-of _ ∙ ap bit (sym (any-count _ _) ∙ author-tagged k tag a m)
 
   -- ---- the counts of the direct rules
@@ -156,14 +164,17 @@ module _ {n : ℕ} {vs : List Vertex} (A : Accepted n vs) where
   authors-tagged-are : (k tag : ℕ) (m : List ℕ) (pass : Vertex → Bool) → ((q : ℕ) → q < length vs → at vs q .round ≡ k → eqb (tagAt m q) tag ≡ pass (at vs q))
       → ((v : Vertex) → pass v ≡ true → v .round ≡ k) → authorsTagged n vs k tag m ≡ authorsWith n vs pass
   unfolding authorsTagged authorsWith
-  authors-tagged-are k tag m pass told round = count-same _ _ n (λ a l. any-same _ _ (length vs) (λ q h. both-ways _ _ (λ e. there a q h e) (λ e. back a q h e)))
+  authors-tagged-are k tag m pass told round =
+      count-same _ _ n (λ a l. any-same _ _ (length vs) (λ q h. both-ways _ _ (λ e. there a q h e) (λ e. back a q h e)))
     where
-      there : (a q : ℕ) → q < length vs → (eqb (at vs q .round) k and eqb (at vs q .author) a) and eqb (tagAt m q) tag ≡ true → eqb (at vs q .author) a and pass (at vs q) ≡ true
+      there : (a q : ℕ) → q < length vs → (eqb (at vs q .round) k and eqb (at vs q .author) a) and eqb (tagAt m q) tag ≡ true
+          → eqb (at vs q .author) a and pass (at vs q) ≡ true
       there a q h e =
           let r : at vs q .round ≡ k = eqb-true _ _ (and-left _ _ (and-left _ _ e)) in
           and-true _ _ (and-right _ _ (and-left _ _ e)) (sym (told q h r) ∙ and-right _ _ e)
 
-      back : (a q : ℕ) → q < length vs → eqb (at vs q .author) a and pass (at vs q) ≡ true → (eqb (at vs q .round) k and eqb (at vs q .author) a) and eqb (tagAt m q) tag ≡ true
+      back : (a q : ℕ) → q < length vs → eqb (at vs q .author) a and pass (at vs q) ≡ true
+          → (eqb (at vs q .round) k and eqb (at vs q .author) a) and eqb (tagAt m q) tag ≡ true
       back a q h e =
           let r : at vs q .round ≡ k = round (at vs q) (and-right _ _ e) in
           and-true _ _ (and-true _ _ (eq-eqb _ _ r) (and-left _ _ e)) (told q h r ∙ and-right _ _ e)
@@ -184,7 +195,8 @@ module _ {n : ℕ} {vs : List Vertex} (A : Accepted n vs) where
           ∙ both-ways _ _ (λ h. is-blank _ r leader (record { one-up = e; empty = eqb-true _ _ h })) (λ h. eq-eqb _ _ (blank-is _ r leader h .empty)))
 
   -- tag p - b + 1 on those that certify the vertex at p
-  pub commit-tagged : (r leader b e p : ℕ) (m : List ℕ) → ((w : ℕ) → w < length vs → at vs w .round ≡ r + 2 → tagAt m w ≡ windowTag (certifiedAt n vs r leader w) b e)
+  commit-tagged : (r leader b e p : ℕ) (m : List ℕ)
+      → ((w : ℕ) → w < length vs → at vs w .round ≡ r + 2 → tagAt m w ≡ windowTag (certifiedAt n vs r leader w) b e)
       → b ≤ p → p < e → InSlot vs r leader p → leb (quorum n) (authorsTagged n vs (r + 2) (p - b + 1) m) ≡ directCommit n vs (at vs p)
   unfolding directCommit
   commit-tagged r leader b e p m T l h s = ap (leb (quorum n)) (authors-tagged-are (r + 2) (p - b + 1) m (λ w. certifies n vs w (at vs p)) told (λ v c. certifies-is n vs v (at vs p) c .two-up ∙ ap (λ x. x + 2) (s .round)))
@@ -193,3 +205,9 @@ module _ {n : ℕ} {vs : List Vertex} (A : Accepted n vs) where
       told w lw q =
           rw (T w lw q) (window-test (certifiedAt n vs r leader w) p b e l h)
           ∙ certified-test A w leader lw r q p (s .within) (s .round) (s .author)
+
+  -- so of each vertex of the window
+  pub window-commit : {r leader b e : ℕ} {m : List ℕ} → Window n vs r leader b e m → (p : ℕ) → b ≤ p → p < e
+      → leb (quorum n) (authorsTagged n vs (r + 2) (p - b + 1) m) ≡ directCommit n vs (at vs p)
+  window-commit {r} {leader} {b} {e} {m} W p l h =
+      commit-tagged r leader b e p m (W .tags) l h (in-slot A r leader p (omega (arith, W .from-on)) (omega (arith, W .up-to)))

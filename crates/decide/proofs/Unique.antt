@@ -13,7 +13,8 @@ use Rattle.decide.specs.Promise.{DecidesTo, cellsAfter, takenAfter}
 use Rattle.decide.proofs.decide.Kinds as decide-kinds
 use Rattle.decide.proofs.decide.Reads as decide
 
-decides-once : {n : ℕ} {t : List ℕ} {before : Buffers} {x y : Checked} {c d k l : List ℕ} → DecidesTo n t before x c k → DecidesTo n t before y d l → (x ≡ y) × ((c ≡ d) × (k ≡ l))
+decides-once : {n : ℕ} {t : List ℕ} {before : Buffers} {x y : Checked} {c d k l : List ℕ} → DecidesTo n t before x c k → DecidesTo n t before y d l
+    → (x ≡ y) × ((c ≡ d) × (k ≡ l))
 decides-once {n} {t} {before} p q =
     let e = p .answer ∙ sym (q .answer) in
     (check-unique _ _ e, (p .in-cells ∙ ap (λ c. cellsAfter c n t (before .cells)) e ∙ sym (q .in-cells), p .in-taken ∙ ap (λ c. takenAfter c t (before .taken)) e ∙ sym (q .in-taken)))

@@ -1,6 +1,6 @@
 -- Decisions as they stand in cells, from the highest slot down.
 -- Assumes nothing.
-use Prim.Native.Nat.{ℕ, _≤_, _<_}
+use Prim.Native.Nat.{ℕ, _+_, _≤_, _<_}
 use mathlib.Core.Path.{_≡_}
 use mathlib.Core.Bool.{Bool, not}
 use mathlib.Core.List.{List}
@@ -12,7 +12,8 @@ use Rattle.rules.specs.Record.{Edition, vertices, at}
 use Rattle.rules.specs.History.{StepRule}
 use Rattle.rules.specs.Decision.{Decision, cell}
 use Rattle.rules.specs.Decide.{Setting, highest}
-use Rattle.decide.specs.Ready.{Ready, DecidedFrom}
+use Rattle.decide.specs.Ready.{lastRound, Ready, DecidedFrom}
+use Rattle.decide.specs.Range.{startOf}
 use Rattle.decide.specs.Sweep.{Swept}
 
 -- Where the first vertex of that round and leader stands that passes the test, or the number of records.
@@ -34,6 +35,15 @@ pub record InHand (C : Setting) (E : Edition) (n : ℕ) (t : List ℕ) (round : 
   pub low : round ≤ highest (vertices E t)
   pub above : DecidedFrom C n (vertices E t) round cells
   pub walked : Walked (C .step) (vertices E t) a p work
+
+-- A round whose anchor is the vertex at b, at least three rounds up.
+pub record AtAnchor (step : StepRule) (E : Edition) (n : ℕ) (t : List ℕ) (round b : ℕ) (a p : ℕ) (work : List ℕ) : Type 0 where
+  pub ready : Ready E n t work
+  pub from-one : 0 < round
+  pub low : round ≤ lastRound
+  pub within : b < length (vertices E t)
+  pub above : startOf (vertices E t) (round + 3) 0 ≤ b
+  pub walked : Walked step (vertices E t) a p work
 
 -- A round that is decided: its cell is that of the decision d, and the work bytes hold the walk that is in hand then.
 pub record Told (step : StepRule) (vs : List Vertex) (d : Decision ℕ) (old : List ℕ) (c a p : ℕ) (new : List ℕ) : Type 0 where

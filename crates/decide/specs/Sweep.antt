@@ -20,3 +20,7 @@ pub record Swept (step : StepRule) (vs : List Vertex) (a p : ℕ) (m : List ℕ)
   pub within : a < length vs
   pub low : p ≤ suc a
   pub told : (q : ℕ) → q < length vs → historyAt m q ≡ bit (markedFrom step vs a p q)
+
+-- The vertex at p hands on: what it steps to is marked, beside what was.
+abbrev pub Handed : StepRule → List Vertex → ℕ → List ℕ → List ℕ → Type 0
+Handed step vs p old new = (q : ℕ) → q < length vs → historyAt new q ≡ bit (eqb (historyAt old q) 1 or step (at vs p) (nameOf (at vs q)))

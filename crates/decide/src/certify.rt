@@ -30,10 +30,11 @@ fn backing(n: u8, table: &[u8], w: usize, leader: u8) -> [u32; 31]
     requires { ⌜ w < recordsOf (now table) ⌝ }
     ensures { λ r. ⌜ r ≡ backs (verticesOf (now (table .entry))) w leader ⌝ }
 {
-    let places = places_of(table, w);
+    let places = places_of(n, table, w);
+    let k = n as usize;
     let mut marks = [0u32; 31];
     let mut i: usize = 0;
-    while i < 31 {
+    while i < k {
         marks[i] = back(table, places[i], w, leader);
         i += 1;
     }

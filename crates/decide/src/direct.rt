@@ -1,13 +1,11 @@
 // The direct rules.
 ghost use mathlib.Core.Path.{_≡_};
-ghost use Prim.Native.Nat.{ℕ, _+_, _-_, _≤_, _<_};
+ghost use Prim.Native.Nat.{_+_, _-_, _≤_, _<_};
 ghost use Rattle.folds.specs.Folds.{firstTo};
 ghost use Rattle.rules.specs.Record.{first, at};
-ghost use Rattle.decide.specs.Ready.{verticesOf, recordsOf, lastRound, Ready};
+ghost use Rattle.decide.specs.Ready.{verticesOf, lastRound, Ready};
 ghost use Rattle.rules.specs.Support.{directCommit, directSkip};
-ghost use Rattle.decide.specs.Certify.{certifiedAt};
-ghost use Rattle.decide.specs.Range.{startOf};
-ghost use Rattle.decide.specs.Work.{Retagged, windowTag, tagAt};
+ghost use Rattle.decide.specs.Work.{Retagged, Window};
 ghost use Rattle.decide.specs.Cells.{firstIn};
 use crate::range::begin;
 use crate::range::smaller;
@@ -20,10 +18,7 @@ use tally::quorum_of;
 fn commit_in(n: u8, table: &[u8], round: u32, leader: u8, b: usize, e: usize, work: &[u8]) -> usize
     requires { ⌜ Ready first n (now table) (now work) ⌝ }
     requires { ⌜ round ≤ lastRound ⌝ }
-    requires { ⌜ e ≤ b + 127 ⌝ }
-    requires { ⌜ startOf (verticesOf (now table)) round leader ≤ b ⌝ }
-    requires { ⌜ e ≤ startOf (verticesOf (now table)) round (leader + 1) ⌝ }
-    requires { ⌜ ((w : ℕ) → w < recordsOf (now table) → at (verticesOf (now table)) w .round ≡ round + 2 → tagAt (now work) w ≡ windowTag (certifiedAt n (verticesOf (now table)) round leader w) b e) ⌝ }
+    requires { ⌜ Window n (verticesOf (now table)) round leader b e (now work) ⌝ }
     ensures { λ r. ⌜ r ≡ b + firstTo (λ i. directCommit n (verticesOf (now (table .entry))) (at (verticesOf (now (table .entry))) (b + i))) (e - b) ⌝ }
 {
     let q = quorum_of(n);

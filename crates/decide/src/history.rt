@@ -2,17 +2,15 @@
 // one pass finds all; it stops where the round in hand needs no more, and goes on from there for the next.
 ghost use mathlib.Core.Path.{_≡_};
 ghost use Prim.Native.Nat.{ℕ, suc, _+_, _%_, _≤_, _<_};
-ghost use lib.Dec.{eqb};
 ghost use lib.ListN.{length};
-ghost use Rattle.folds.specs.Folds.{_or_, bit};
-ghost use Rattle.rules.specs.Record.{first, at, nameOf};
+ghost use Rattle.rules.specs.Record.{first};
 ghost use Rattle.decide.specs.Ready.{verticesOf, recordsOf, lastRound, Ready};
 ghost use Rattle.rules.specs.Support.{references};
 ghost use Rattle.rules.specs.History.{history};
 ghost use Rattle.rules.specs.Decide.{certifiedIn};
 ghost use Rattle.decide.specs.Range.{startOf};
 ghost use Rattle.decide.specs.Work.{historyAt};
-ghost use Rattle.decide.specs.Sweep.{Swept};
+ghost use Rattle.decide.specs.Sweep.{Swept, Handed};
 ghost use Rattle.decide.specs.Cells.{firstIn, Walked};
 use crate::certify::certified_at;
 use crate::range::begin;
@@ -66,9 +64,9 @@ fn mark_refs(n: u8, table: &[u8], p: usize, work: &mut [u8])
     requires { ⌜ Ready first n (now table) (now work) ⌝ }
     requires { ⌜ p < recordsOf (now table) ⌝ }
     ensures { λ r. ⌜ length (now (work .exit)) ≡ length (now (work .entry)) ⌝ }
-    ensures { λ r. ⌜ ((q : ℕ) → q < recordsOf (now (table .entry)) → historyAt (now (work .exit)) q ≡ bit (eqb (historyAt (now (work .entry)) q) 1 or references (at (verticesOf (now (table .entry))) p) (nameOf (at (verticesOf (now (table .entry))) q)))) ⌝ }
+    ensures { λ r. ⌜ Handed references (verticesOf (now (table .entry))) p (now (work .entry)) (now (work .exit)) ⌝ }
 {
-    let places = places_of(table, p);
+    let places = places_of(n, table, p);
     let k = n as usize;
     let mut i: usize = 0;
     while i < k {
@@ -151,7 +149,8 @@ pub(crate) fn certified_in(
     requires { ⌜ round ≤ lastRound ⌝ }
     requires { ⌜ Swept references (verticesOf (now table)) a done (now work) ⌝ }
     requires { ⌜ done ≤ startOf (verticesOf (now table)) (round + 3) 0 ⌝ }
-    ensures { λ r. ⌜ r ≡ firstIn (verticesOf (now (table .entry))) round leader (certifiedIn n (verticesOf (now (table .entry))) (history references (verticesOf (now (table .entry))) a)) ⌝ }
+    ensures { λ r. ⌜ r ≡ firstIn (verticesOf (now (table .entry))) round leader
+        (certifiedIn n (verticesOf (now (table .entry))) (history references (verticesOf (now (table .entry))) a)) ⌝ }
 {
     let end = begin(n, table, round + 3, 0);
     let mut w = begin(n, table, round + 2, 0);

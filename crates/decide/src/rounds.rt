@@ -11,9 +11,8 @@ ghost use Rattle.rules.specs.Decision.{cell};
 ghost use Rattle.rules.specs.Support.{references};
 ghost use Rattle.rules.specs.Decide.{boxSetting, highest, anchor, indirect, decisions, decisionAt, throughAnchor};
 ghost use Rattle.rules.specs.Settlement.{writtenOver};
-ghost use Rattle.decide.specs.Range.{startOf};
-ghost use Rattle.decide.specs.Ready.{verticesOf, recordsOf, lastRound, Ready};
-ghost use Rattle.decide.specs.Cells.{stopAt, Walked, InHand, Told};
+ghost use Rattle.decide.specs.Ready.{verticesOf, lastRound, Ready};
+ghost use Rattle.decide.specs.Cells.{stopAt, InHand, AtAnchor, Told};
 use crate::direct::direct_commit;
 use crate::direct::direct_skip;
 use crate::history::Walk;
@@ -70,13 +69,10 @@ fn cell_of(p: usize, k: usize, other: u32) -> u32
 
 // The round through its anchor, the vertex at a.
 fn through_anchor(n: u8, table: &[u8], round: u32, a: usize, walk: Walk, work: &mut [u8]) -> Round
-    requires { ⌜ Ready first n (now table) (now work) ⌝ }
-    requires { ⌜ 0 < round ⌝ }
-    requires { ⌜ round ≤ lastRound ⌝ }
-    requires { ⌜ a < recordsOf (now table) ⌝ }
-    requires { ⌜ startOf (verticesOf (now table)) (round + 3) 0 ≤ a ⌝ }
-    requires { ⌜ Walked references (verticesOf (now table)) (walk .anchor) (walk .done) (now work) ⌝ }
-    ensures { λ r. ⌜ Told references (verticesOf (now (table .entry))) (throughAnchor (boxSetting n) n (verticesOf (now (table .entry))) (round - 1) a) (now (work .entry)) (r .cell) (r .walk .anchor) (r .walk .done) (now (work .exit)) ⌝ }
+    requires { ⌜ AtAnchor references first n (now table) round a (walk .anchor) (walk .done) (now work) ⌝ }
+    ensures { λ r. ⌜ Told references (verticesOf (now (table .entry)))
+        (throughAnchor (boxSetting n) n (verticesOf (now (table .entry))) (round - 1) a)
+        (now (work .entry)) (r .cell) (r .walk .anchor) (r .walk .done) (now (work .exit)) ⌝ }
 {
     let k = record::records_of(table);
     let leader = leader_of(n, round);
@@ -92,7 +88,9 @@ fn through_anchor(n: u8, table: &[u8], round: u32, a: usize, walk: Walk, work: &
 // One round by the indirect rule.
 fn by_anchor(n: u8, table: &[u8], round: u32, cells: &[u32], walk: Walk, work: &mut [u8]) -> Round
     requires { ⌜ InHand (boxSetting n) first n (now table) round (now cells) (walk .anchor) (walk .done) (now work) ⌝ }
-    ensures { λ r. ⌜ Told references (verticesOf (now (table .entry))) (indirect (boxSetting n) n (verticesOf (now (table .entry))) (round - 1) (anchor (drop (round + 2) (decisions (boxSetting n) n (verticesOf (now (table .entry))))))) (now (work .entry)) (r .cell) (r .walk .anchor) (r .walk .done) (now (work .exit)) ⌝ }
+    ensures { λ r. ⌜ Told references (verticesOf (now (table .entry)))
+        (indirect (boxSetting n) n (verticesOf (now (table .entry))) (round - 1) (anchor (drop (round + 2) (decisions (boxSetting n) n (verticesOf (now (table .entry)))))))
+        (now (work .entry)) (r .cell) (r .walk .anchor) (r .walk .done) (now (work .exit)) ⌝ }
 {
     let top = highest_of(table);
     let t = stop_at(cells, round, top);
@@ -109,7 +107,9 @@ fn by_anchor(n: u8, table: &[u8], round: u32, cells: &[u32], walk: Walk, work: &
 // One round: by the direct rules, and else by the indirect one.
 fn decide_one(n: u8, table: &[u8], round: u32, cells: &[u32], walk: Walk, work: &mut [u8]) -> Round
     requires { ⌜ InHand (boxSetting n) first n (now table) round (now cells) (walk .anchor) (walk .done) (now work) ⌝ }
-    ensures { λ r. ⌜ Told references (verticesOf (now (table .entry))) (decisionAt (decisions (boxSetting n) n (verticesOf (now (table .entry)))) (round - 1)) (now (work .entry)) (r .cell) (r .walk .anchor) (r .walk .done) (now (work .exit)) ⌝ }
+    ensures { λ r. ⌜ Told references (verticesOf (now (table .entry)))
+        (decisionAt (decisions (boxSetting n) n (verticesOf (now (table .entry)))) (round - 1)) (now (work .entry)) (r .cell) (r .walk .anchor)
+        (r .walk .done) (now (work .exit)) ⌝ }
 {
     let k = record::records_of(table);
     let leader = leader_of(n, round);

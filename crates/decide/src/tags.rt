@@ -32,7 +32,8 @@ fn blank_tag(mark: u32) -> u8
 pub(crate) fn tag_blank(n: u8, table: &[u8], round: u32, leader: u8, work: &mut [u8])
     requires { ⌜ Ready first n (now table) (now work) ⌝ }
     requires { ⌜ round ≤ lastRound ⌝ }
-    ensures { λ r. ⌜ Tagged (verticesOf (now (table .entry))) (round + 1) (λ q. bit (eqb (entry (at (verticesOf (now (table .entry))) q) leader) 0)) (now (work .entry)) (now (work .exit)) ⌝ }
+    ensures { λ r. ⌜ Tagged (verticesOf (now (table .entry))) (round + 1) (λ q. bit (eqb (entry (at (verticesOf (now (table .entry))) q) leader) 0))
+        (now (work .entry)) (now (work .exit)) ⌝ }
 {
     let end = begin(n, table, round + 2, 0);
     let mut q = begin(n, table, round + 1, 0);
@@ -70,7 +71,8 @@ pub(crate) fn tag_certified(
     requires { ⌜ Ready first n (now table) (now work) ⌝ }
     requires { ⌜ round ≤ lastRound ⌝ }
     requires { ⌜ e ≤ b + 127 ⌝ }
-    ensures { λ r. ⌜ Tagged (verticesOf (now (table .entry))) (round + 2) (λ w. windowTag (certifiedAt n (verticesOf (now (table .entry))) round leader w) b e) (now (work .entry)) (now (work .exit)) ⌝ }
+    ensures { λ r. ⌜ Tagged (verticesOf (now (table .entry))) (round + 2)
+        (λ w. windowTag (certifiedAt n (verticesOf (now (table .entry))) round leader w) b e) (now (work .entry)) (now (work .exit)) ⌝ }
 {
     let end = begin(n, table, round + 3, 0);
     let mut w = begin(n, table, round + 2, 0);

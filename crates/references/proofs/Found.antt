@@ -1,24 +1,24 @@
 -- Where the references of a record stand, on a table that passed: where `find` of the rules finds them, and before the record.
 -- Assumes nothing.
-use Prim.Native.Nat.{ℕ, pred, _≤_, _<_, min}
-use mathlib.Core.Path.{_≡_, refl, sym, ap, _∙_, subst}
+use Prim.Native.Nat.{ℕ, _≤_, _<_, min}
+use mathlib.Core.Path.{_≡_, refl, sym, _∙_, subst}
 use mathlib.Core.Logic.{⊎-elim, _≢_}
-use mathlib.Core.Bool.{true, false}
+use mathlib.Core.Bool.{true, false, cond}
 use mathlib.Core.List.{List}
 use native.Mathlib.Omega.{arith}
 use native.Mathlib.Nat.{le-refl, eq-or-lt-of-le}
 use lib.Dec.{ltb, eqb}
 use lib.ListN.{length, getD}
-use borrow.Author.Tests.{eqb-true, eqb-false, ne-eqb, eq-eqb, ltb-true, ltb-false}
+use borrow.Author.Tests.{eqb-true, eqb-false, ne-eqb, eq-eqb, ltb-true, ltb-false, lt-ltb}
 use Rattle.folds.proofs.Tests.{by-test, not-both, failed, is-not, is-not-true}
 use Rattle.folds.proofs.Laws.{first-by}
 use Rattle.folds.proofs.Lists.{getD-tabulate}
 use Rattle.rules.specs.declared.Name.{Name}
 use Rattle.rules.specs.declared.Vertex.{Vertex}
-use Rattle.rules.specs.Record.{first, records, vertices, at, nameOf, entry, entryName, below, find, named}
+use Rattle.rules.specs.Record.{first, records, vertices, at, nameOf, entry, entryName, below, find}
 use Rattle.rules.proofs.Names.{name-same, Below, below-is, is-below, below-trans, below-irrefl}
 use Rattle.rules.proofs.Records.{vertices-length, vertices-at, find-name}
-use Rattle.rules.proofs.Accepted.{Accepted, earlier, rising}
+use Rattle.rules.proofs.Accepted.{Accepted, entry-low, earlier, rising}
 use Rattle.search.specs.Search.{nameAt, placeOf, findBelow}
 use Rattle.search.proofs.Names.{name-at}
 use Rattle.search.proofs.Search.{Falls, halves-first, found-here}
@@ -76,20 +76,21 @@ module _ {n : ℕ} (t : List ℕ) (A : Accepted n (vertices first t)) (p : ℕ) 
   few : p < records first t
   few = rw (← vertices-length first t) l
 
-  place-at : getD (placesOf t p) i 0 ≡ placeAmong t p (entryName v i)
+  place-at : getD (placesOf n t p) i 0 ≡ cond (ltb i n) (placeAmong t p (entryName v i)) p
   unfolding placesOf placesAmong
-  place-at = rw (← vertices-at first t p few) (getD-tabulate (λ j. placeAmong t p (entryName v j)) 31 i 0 li)
+  place-at = rw (← vertices-at first t p few) (getD-tabulate (λ j. cond (ltb j n) (placeAmong t p (entryName v j)) p) 31 i 0 li)
 
-  none-at : entry v i ≡ 0 → getD (placesOf t p) i 0 ≡ p
+  none-at : entry v i ≡ 0 → getD (placesOf n t p) i 0 ≡ p
   unfolding placeAmong
-  none-at z = place-at ∙ rw (eq-eqb _ _ z)
+  none-at z = place-at ∙ by-test (ltb i n) (λ e. rw (e, eq-eqb _ _ z)) (λ e. rw e)
 
-  found-at : entry v i ≢ 0 → (getD (placesOf t p) i 0 ≡ find (vertices first t) (entryName v i)) × (getD (placesOf t p) i 0 < p)
+  found-at : entry v i ≢ 0 → (getD (placesOf n t p) i 0 ≡ find (vertices first t) (entryName v i)) × (getD (placesOf n t p) i 0 < p)
   unfolding placeAmong
   found-at f =
       let low : find (vertices first t) (entryName v i) < p = earlier A p i l f in
       let all : min p (records first t) ≡ p = omega (arith, few) in
-      let q : getD (placesOf t p) i 0 ≡ find (vertices first t) (entryName v i) = place-at ∙ rw (ne-eqb _ _ f, all) (find-among t A (entryName v i) p (omega (arith, few)) low) in
+      let q : getD (placesOf n t p) i 0 ≡ find (vertices first t) (entryName v i) =
+      place-at ∙ rw (lt-ltb i n (entry-low A p i l f), ne-eqb _ _ f, all) (find-among t A (entryName v i) p (omega (arith, few)) low) in
       (q, rw q low)
 
   -- a place below p is that of a reference
@@ -97,9 +98,9 @@ module _ {n : ℕ} (t : List ℕ) (A : Accepted n (vertices first t)) (p : ℕ) 
     pub given : entry v i ≢ 0
     pub place : q ≡ find (vertices first t) (entryName v i)
 
-  pub reference-at : getD (placesOf t p) i 0 < p → Reference (getD (placesOf t p) i 0)
+  pub reference-at : getD (placesOf n t p) i 0 < p → Reference (getD (placesOf n t p) i 0)
   reference-at h = let f : entry v i ≢ 0 = λ z. omega (arith, none-at z) in record { given = f; place = found-at f .0 }
 
   -- another one is of none
-  pub no-reference : p ≤ getD (placesOf t p) i 0 → entry v i ≡ 0
+  pub no-reference : p ≤ getD (placesOf n t p) i 0 → entry v i ≡ 0
   no-reference h = by-test (eqb (entry v i) 0) (λ e. eqb-true _ _ e) (λ e. absurd (omega (arith, found-at (eqb-false _ _ e) .1)))

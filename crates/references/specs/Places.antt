@@ -3,7 +3,7 @@
 use Prim.Native.Nat.{ℕ, pred, min}
 use mathlib.Core.Bool.{cond}
 use mathlib.Core.List.{List}
-use lib.Dec.{eqb}
+use lib.Dec.{ltb, eqb}
 use lib.ListN.{getD}
 use Rattle.folds.specs.Folds.{tabulate}
 use Rattle.rules.specs.declared.Name.{Name}
@@ -15,10 +15,10 @@ use Rattle.search.specs.Search.{findBelow}
 unfoldable pub placeAmong : List ℕ → ℕ → Name → ℕ
 placeAmong t p x = cond (eqb (x .mark) 0) p (findBelow t (min p (records first t)) x)
 
--- Entry i: where the vertex of author i, of that round and with mark i of the list, stands among the first p records.
-unfoldable pub placesAmong : List ℕ → (p round : ℕ) → List ℕ → List ℕ
-placesAmong t p round refs = tabulate (λ i. placeAmong t p (named round i (getD refs i 0))) 31
+-- Entry i: where the vertex of author i, of that round and with mark i of the list, stands among the first p records. From author n on, p.
+unfoldable pub placesAmong : ℕ → List ℕ → (p round : ℕ) → List ℕ → List ℕ
+placesAmong n t p round refs = tabulate (λ i. cond (ltb i n) (placeAmong t p (named round i (getD refs i 0))) p) 31
 
 -- Entry i: where reference i of the record at p stands, among the records before it.
-unfoldable pub placesOf : List ℕ → ℕ → List ℕ
-placesOf t p = let v = decode first (recordAt first t p) in placesAmong t p (pred (v .round)) (v .refs)
+unfoldable pub placesOf : ℕ → List ℕ → ℕ → List ℕ
+placesOf n t p = let v = decode first (recordAt first t p) in placesAmong n t p (pred (v .round)) (v .refs)

@@ -1,8 +1,7 @@
 // The references of a record, resolved: where each one stands. What follows references asks here, so that they are found in one place.
 ghost use mathlib.Core.Path.{_≡_};
-ghost use Prim.Native.Nat.{pred};
-ghost use Rattle.rules.specs.Record.{first, recordAt, decode as decoded};
-ghost use Rattle.references.specs.Places.{placeAmong, placesAmong, placesOf};
+ghost use Prim.Native.Nat.{pred, min};
+ghost use Rattle.references.specs.Places.{placesOf};
 use rules::Name;
 use search::find;
 
@@ -13,40 +12,36 @@ fn round_before(round: u32) -> u32
     if round == 0 { 0 } else { round - 1 }
 }
 
-// Where the name stands among the first p records. Mark 0 is no reference, so nothing is looked for, and the answer is p.
-fn place_among(table: &[u8], p: usize, x: Name) -> usize
-    ensures { λ r. ⌜ r ≡ placeAmong (now (table .entry)) p x ⌝ }
+// The smaller of two numbers.
+fn smaller(a: usize, b: usize) -> usize
+    ensures { λ r. ⌜ r ≡ min a b ⌝ }
 {
-    if x.mark == 0 {
-        return p;
-    }
-    find(table, p, x)
+    if a < b { a } else { b }
 }
 
-// The same of 31 marks, one for each author of the round.
-fn places_among(table: &[u8], p: usize, round: u32, refs: [u32; 31]) -> [usize; 31]
-    ensures { λ r. ⌜ r ≡ placesAmong (now (table .entry)) p round refs ⌝ }
+// Where the references of the record at p to the first n authors stand, one for each author: below p, if there is one that names an earlier
+// record, and else p. Only the records before p are looked through, and for mark 0, which is no reference, none.
+pub fn places_of(n: u8, table: &[u8], p: usize) -> [usize; 31]
+    ensures { λ r. ⌜ r ≡ placesOf n (now (table .entry)) p ⌝ }
 {
-    let mut places = [0usize; 31];
+    let b = record::part(table, p);
+    let refs = record::refs_of(b);
+    let x = record::name_of(b);
+    let round = round_before(x.round);
+    let k = smaller(n as usize, 31);
+    let mut places = [p; 31];
     let mut i: usize = 0;
-    while i < 31 {
-        let x = Name {
-            round,
-            author: i as u8,
-            mark: refs[i],
-        };
-        places[i] = place_among(table, p, x);
+    while i < k {
+        let mark = refs[i];
+        if mark != 0 {
+            let y = Name {
+                round,
+                author: i as u8,
+                mark,
+            };
+            places[i] = find(table, p, y);
+        }
         i += 1;
     }
     places
-}
-
-// Where the references of the record at p stand, one for each author: below p, if there is one that names an earlier record. Only those
-// are looked through.
-pub fn places_of(table: &[u8], p: usize) -> [usize; 31]
-    ensures { λ r. ⌜ r ≡ placesOf (now (table .entry)) p ⌝ }
-{
-    let v = record::decode(record::part(table, p));
-    let refs = v.refs;
-    places_among(table, p, round_before(v.round), refs)
 }

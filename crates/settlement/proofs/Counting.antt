@@ -23,6 +23,7 @@ use Rattle.rules.proofs.Records.{vertices-length}
 use Rattle.rules.proofs.Accepted.{Accepted, author-low, rising}
 use Rattle.search.proofs.Names.{name-at}
 use Rattle.folds.proofs.Over.{or-last, set-tabulate}
+use Rattle.settlement.specs.Twins.{side}
 
 -- ---- a search from below
 
@@ -32,18 +33,15 @@ first-found p k i l none t = sym (first-by p k i (record { within = omega arith;
 
 -- ---- two neighbours
 
--- The records at p and after it are of one round and one author.
-abbrev pub side : List Vertex → ℕ → Bool
-side vs p = eqb (at vs p .round) (at vs (p + 1) .round) and eqb (at vs p .author) (at vs (p + 1) .author)
-
--- And that author is a.
+-- They are of one round and one author, and that author is a.
 abbrev pub pair : List Vertex → ℕ → ℕ → Bool
 pair vs a p = side vs p and eqb (at vs (p + 1) .author) a
 
 -- of two names of one round the lower one has no higher author
 author-rises : (x y : Name) → Below x y → x .round ≡ y .round → x .author ≤ y .author
 unfolding below
-author-rises x y b r = ⊎-elim (λ t. absurd (omega (arith, ltb-true (x .round) (y .round) t))) (λ t. later (or-cases _ _ (and-right _ _ t))) (or-cases _ _ (is-below x y b))
+author-rises x y b r =
+    ⊎-elim (λ t. absurd (omega (arith, ltb-true (x .round) (y .round) t))) (λ t. later (or-cases _ _ (and-right _ _ t))) (or-cases _ _ (is-below x y b))
   where
     later : (ltb (x .author) (y .author) ≡ true) ⊎ (eqb (x .author) (y .author) and ltb (x .mark) (y .mark) ≡ true) → x .author ≤ y .author
     later (inl h) = omega (arith, ltb-true (x .author) (y .author) h)
@@ -77,7 +75,9 @@ module _ {n : ℕ} {vs : List Vertex} (A : Accepted n vs) where
   -- an author has two records in some one round exactly when two neighbours are such
   pub split-is : (a : ℕ) → equivocates vs a ≡ anyTo (pair vs a) (length vs - 1)
   unfolding equivocates
-  split-is a = by-test (equivocates vs a) (λ e. e ∙ sym (up (any-witness _ (length vs) e))) (λ e. e ∙ sym (failed _ (λ t. not-both (down (any-witness _ (length vs - 1) t)) e)))
+  split-is a =
+      by-test (equivocates vs a) (λ e. e ∙ sym (up (any-witness _ (length vs) e)))
+      (λ e. e ∙ sym (failed _ (λ t. not-both (down (any-witness _ (length vs - 1) t)) e)))
     where
       other : ℕ → ℕ → Bool
       other p q = eqb (at vs q .author) a and eqb (at vs q .round) (at vs p .round) and not (eqb (at vs q .mark) (at vs p .mark))
@@ -85,7 +85,8 @@ module _ {n : ℕ} {vs : List Vertex} (A : Accepted n vs) where
       found : (i : ℕ) × (i < length vs - 1) × (pair vs a i ≡ true) → anyTo (pair vs a) (length vs - 1) ≡ true
       found (i, l, t) = any-intro _ (length vs - 1) i l t
 
-      two : (p q : ℕ) → p < length vs → q < length vs → at vs p .author ≡ a → at vs q .author ≡ a → at vs q .round ≡ at vs p .round → at vs q .mark ≢ at vs p .mark
+      two : (p q : ℕ) → p < length vs → q < length vs → at vs p .author ≡ a → at vs q .author ≡ a → at vs q .round ≡ at vs p .round
+          → at vs q .mark ≢ at vs p .mark
           → (p < q) ⊎ ((p ≡ q) ⊎ (q < p)) → anyTo (pair vs a) (length vs - 1) ≡ true
       two p q lp lq ap′ aq r m (inl h) = let w = neighbour a p q h lq (sym r) ap′ aq in found (p, w .0, w .1)
       two p q lp lq ap′ aq r m (inr (inl h)) = absurd (m (ap (λ (k : ℕ). at vs k .mark) (sym h)))
@@ -97,7 +98,8 @@ module _ {n : ℕ} {vs : List Vertex} (A : Accepted n vs) where
           inner : (q : ℕ) × (q < length vs) × (other p q ≡ true) → anyTo (pair vs a) (length vs - 1) ≡ true
           inner (q, lq, s) =
               let rest = and-right _ _ s in
-              two p q lp lq (eqb-true _ _ (and-left _ _ t)) (eqb-true _ _ (and-left _ _ s)) (eqb-true _ _ (and-left _ _ rest)) (eqb-false _ _ (not-true _ (and-right _ _ rest))) (compare p q)
+              two p q lp lq (eqb-true _ _ (and-left _ _ t)) (eqb-true _ _ (and-left _ _ s)) (eqb-true _ _ (and-left _ _ rest))
+              (eqb-false _ _ (not-true _ (and-right _ _ rest))) (compare p q)
 
       down : (i : ℕ) × (i < length vs - 1) × (pair vs a i ≡ true) → equivocates vs a ≡ true
       down (i, l, t) =
@@ -115,7 +117,8 @@ module _ {n : ℕ} {vs : List Vertex} (A : Accepted n vs) where
 -- ---- the names of two neighbours, as they are read
 
 -- the name in a record's part
-pub named-at : (t : List ℕ) (q : ℕ) (b : List ℕ) (z : Name) → q < length (vertices first t) → b ≡ recordAt first t q → z ≡ nameOf (decode first b) → z ≡ nameOf (at (vertices first t) q)
+pub named-at : (t : List ℕ) (q : ℕ) (b : List ℕ) (z : Name) → q < length (vertices first t) → b ≡ recordAt first t q → z ≡ nameOf (decode first b)
+    → z ≡ nameOf (at (vertices first t) q)
 named-at t q b z h p e = e ∙ ap (λ x. nameOf (decode first x)) p ∙ sym (name-at t q (rw (← vertices-length first t) h))
 
 module _ (vs : List Vertex) (p : ℕ) (x y : Name) (is-x : x ≡ nameOf (at vs p)) (is-y : y ≡ nameOf (at vs (p + 1))) where

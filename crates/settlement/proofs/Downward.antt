@@ -147,7 +147,8 @@ module _ {n : ℕ} {vs : List Vertex} {step : StepRule} (A : Accepted n vs) (W :
 
         turn : (q : ℕ) → q < length vs → moreAt step vs p b q ≡ dueFrom step vs a p m q
         turn q lq =
-            let at-q : getD b q 0 ≡ dueFrom step vs a (suc p) m q = ap (λ x. getD x q 0) (D .bytes) ∙ over-at (dueFrom step vs a (suc p) m) (length vs) m q lq in
+            let at-q : getD b q 0 ≡ dueFrom step vs a (suc p) m q =
+            ap (λ x. getD x q 0) (D .bytes) ∙ over-at (dueFrom step vs a (suc p) m) (length vs) m q lq in
             ap (λ x. cond (eqb x 0 and step (at vs p) (nameOf (at vs q))) 2 x) at-q
             ∙ one-more (written m q) (markedFrom step vs a (suc p) q) (step (at vs p) (nameOf (at vs q)))
             ∙ ap (byteOf (written m q)) (sym (marked-next A W a l p q belongs))

@@ -74,7 +74,8 @@ module _ {n : ℕ} {vs : List Vertex} (A : Accepted n vs) (p : ℕ) (l : p < len
     }
 
     -- it names the vertex at q
-    pub more-next : (q lowest′ : ℕ) (b′ : List ℕ) → entry (at vs p) i ≢ 0 → q ≡ find vs (entryName (at vs p) i) → q < length vs → MarkedOne q lowest b lowest′ b′ → More vs p m low (i + 1) lowest′ b′
+    pub more-next : (q lowest′ : ℕ) (b′ : List ℕ) → entry (at vs p) i ≢ 0 → q ≡ find vs (entryName (at vs p) i) → q < length vs
+        → MarkedOne q lowest b lowest′ b′ → More vs p m low (i + 1) lowest′ b′
     more-next q lowest′ b′ f e lq one = record {
       kept = ap length (one .bytes) ∙ simp length-set (M .kept);
       lower = omega (arith, one .lower, M .lower);
@@ -89,7 +90,8 @@ module _ {n : ℕ} {vs : List Vertex} (A : Accepted n vs) (p : ℕ) (l : p < len
         is-named = named-next A p l i f q lq ∙ or-right _ _ (eq-eqb q _ e)
 
         value : cond (eqb (getD b q 0) 0) 2 (getD b q 0) ≡ toldTo vs p (i + 1) m q
-        value = ap (λ x. cond (eqb x 0) 2 x) at-q ∙ again (getD m q 0) (namedTo vs p i q) ∙ ap (λ x. cond (eqb (getD m q 0) 0 and x) 2 (getD m q 0)) (sym is-named)
+        value =
+            ap (λ x. cond (eqb x 0) 2 x) at-q ∙ again (getD m q 0) (namedTo vs p i q) ∙ ap (λ x. cond (eqb (getD m q 0) 0 and x) 2 (getD m q 0)) (sym is-named)
 
         other : (j : ℕ) → j < length vs → j ≢ q → namedTo vs p i j ≡ namedTo vs p (i + 1) j
         other j lj d = sym (named-next A p l i f j lj ∙ ap (λ x. namedTo vs p i j or x) (ne-eqb j _ (λ w. d (w ∙ sym e))) ∙ sym (or-last _))
@@ -97,7 +99,8 @@ module _ {n : ℕ} {vs : List Vertex} (A : Accepted n vs) (p : ℕ) (l : p < len
         next : set b q (cond (eqb (getD b q 0) 0) 2 (getD b q 0)) ≡ bytesOver (toldTo vs p (i + 1) m) (length vs) m
         next =
             ap (λ x. set x q (cond (eqb (getD b q 0) 0) 2 (getD b q 0))) (M .bytes)
-            ∙ over-set (toldTo vs p i m) (length vs) m (toldTo vs p (i + 1) m) q _ lq value (λ j lj d. ap (λ x. cond (eqb (getD m j 0) 0 and x) 2 (getD m j 0)) (other j lj d))
+            ∙ over-set (toldTo vs p i m) (length vs) m (toldTo vs p (i + 1) m) q _ lq value
+            (λ j lj d. ap (λ x. cond (eqb (getD m j 0) 0 and x) 2 (getD m j 0)) (other j lj d))
 
     -- it is the last
     pub more-end : n ≤ i → MarkedMore references vs p low m lowest b

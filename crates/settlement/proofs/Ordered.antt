@@ -50,7 +50,8 @@ module _ (step : StepRule) (vs : List Vertex) (w : List ℕ) (ds : List (Decisio
     unfolding writeFrom
     rest-skip e = rw (add-one s, drop-cons ds s undecided l, e)
 
-    rest-commit : (a : ℕ) → decisionAt ds s ≡ committed a → writeFrom step vs w (drop s ds) ≡ writeFrom step vs (w ++ notYet w (history step vs a)) (drop (s + 1) ds)
+    rest-commit : (a : ℕ) → decisionAt ds s ≡ committed a
+        → writeFrom step vs w (drop s ds) ≡ writeFrom step vs (w ++ notYet w (history step vs a)) (drop (s + 1) ds)
     unfolding writeFrom
     rest-commit a e = rw (add-one s, drop-cons ds s undecided l, e)
 
@@ -76,11 +77,11 @@ cell-committed (committed a) c e z o = ap committed (omega arith)
 member-append : (x : ℕ) (v w : List ℕ) → member x (v ++ w) ≡ member x v or member x w
 unfolding member _or_
 member-append x [] w = refl
-member-append x (y ∷ v) w = go (eqb x y) (member-append x v w)
+member-append x (y ∷ v) w = or-more (eqb x y) (member-append x v w)
   where
-    go : (b : Bool) → member x (v ++ w) ≡ member x v or member x w → b or member x (v ++ w) ≡ (b or member x v) or member x w
-    go true e = refl
-    go false e = e
+    or-more : (b : Bool) → member x (v ++ w) ≡ member x v or member x w → b or member x (v ++ w) ≡ (b or member x v) or member x w
+    or-more true e = refl
+    or-more false e = e
 
 member-filter : (t : ℕ → Bool) (k x : ℕ) → x < k → member x (filterTo t k) ≡ t x
 member-filter t k x l = both-ways _ _ (λ e. filter-sound t k x (member-sound x _ e) .1) (λ e. member-complete x _ (filter-complete t k x l e))
@@ -139,7 +140,8 @@ bit-one true = refl
 bit-one false = refl
 
 -- none is written
-pub upto-start : (C : Setting) (n : ℕ) (vs : List Vertex) (o m : List ℕ) → length vs ≤ length m → ((q : ℕ) → q < length vs → getD m q 0 ≡ 0) → Upto C n vs o m 0 0 o m
+pub upto-start : (C : Setting) (n : ℕ) (vs : List Vertex) (o m : List ℕ) → length vs ≤ length m → ((q : ℕ) → q < length vs → getD m q 0 ≡ 0)
+    → Upto C n vs o m 0 0 o m
 unfolding order member
 upto-start C n vs o m l z = record {
   so-far = [];
@@ -217,7 +219,8 @@ module _ {C : Setting} {n : ℕ} {vs : List Vertex} {o m : List ℕ} {s count : 
     next-is : (q : ℕ) → member q next ≡ member q w or new q
     next-is q =
         member-append q w _
-        ∙ ap (λ x. member q w or x) (ap (member q) not-yet ∙ by-test (ltb q (suc a)) (λ t. member-filter new (suc a) q (ltb-true q (suc a) t)) (λ t. past (ltb-false q (suc a) t)))
+        ∙ ap (λ x. member q w or x)
+        (ap (member q) not-yet ∙ by-test (ltb q (suc a)) (λ t. member-filter new (suc a) q (ltb-true q (suc a) t)) (λ t. past (ltb-false q (suc a) t)))
       where
         past : suc a ≤ q → member q (filterTo new (suc a)) ≡ new q
         past h = failed _ (λ t. absurd (omega (arith, filter-sound new (suc a) q (member-sound q _ t) .0))) ∙ sym (new-past q h)
@@ -229,16 +232,21 @@ module _ {C : Setting} {n : ℕ} {vs : List Vertex} {o m : List ℕ} {s count : 
     long = length-append w _ ∙ ap (λ x. length w + length x) (sym fresh-is)
 
     places-next : o″ ≡ writtenOver next o
-    places-next = L .places ∙ ap₂ (λ c x. placesOver c (fresh (C .step) vs a m′) x) (U .counted) (U .places) ∙ ap (λ x. placesOver (length w) x (writtenOver w o)) fresh-is ∙ places-over w _ o
+    places-next =
+        L .places ∙ ap₂ (λ c x. placesOver c (fresh (C .step) vs a m′) x) (U .counted) (U .places)
+        ∙ ap (λ x. placesOver (length w) x (writtenOver w o)) fresh-is ∙ places-over w _ o
 
     bytes-next : m″ ≡ bytesOver (λ q. bit (member q next)) (length vs) m
-    bytes-next = L .bytes ∙ ap (bytesOver _ (length vs)) (U .bytes) ∙ over-over _ (length vs) m _ ∙ over-same _ (length vs) m _ (λ q lq. ap bit (ap (λ x. x or belongs q) (written-is q lq) ∙ sym (member-next q)))
+    bytes-next =
+        L .bytes ∙ ap (bytesOver _ (length vs)) (U .bytes) ∙ over-over _ (length vs) m _
+        ∙ over-same _ (length vs) m _ (λ q lq. ap bit (ap (λ x. x or belongs q) (written-is q lq) ∙ sym (member-next q)))
 
     once-next : length next ≡ countTo (λ q. member q next) (length vs)
     once-next =
         let cut : suc a + (length vs - suc a) ≡ length vs = omega arith in
         let new-count : length (fresh (C .step) vs a m′) ≡ countTo new (length vs) =
-        ap length (fresh-is ∙ not-yet) ∙ filter-length new (suc a) ∙ sym (count-cut new (suc a) (length vs - suc a) (λ i h k. new-past i h)) ∙ ap (countTo new) cut
+        ap length (fresh-is ∙ not-yet) ∙ filter-length new (suc a) ∙ sym (count-cut new (suc a) (length vs - suc a) (λ i h k. new-past i h))
+        ∙ ap (countTo new) cut
         in
         let both : countTo (λ q. member q next) (length vs) ≡ countTo (λ q. member q w) (length vs) + countTo new (length vs) =
         count-same _ _ (length vs) (λ q lq. next-is q) ∙ count-or (λ q. member q w) belongs (length vs)

@@ -43,7 +43,8 @@ record FirstOpen (s : ℕ) (ds : List (Decision ℕ)) : Type 0 where
   is : firstUndecided s ds ≡ s + place
   first-open : First (λ t. eqb (cell (decisionAt ds t)) 0) (length ds) place
 
-further : (s : ℕ) (d : Decision ℕ) (ds : List (Decision ℕ)) → firstUndecided s (d ∷ ds) ≡ firstUndecided (suc s) ds → eqb (cell d) 0 ≡ false → FirstOpen (suc s) ds → FirstOpen s (d ∷ ds)
+further : (s : ℕ) (d : Decision ℕ) (ds : List (Decision ℕ)) → firstUndecided s (d ∷ ds) ≡ firstUndecided (suc s) ds → eqb (cell d) 0 ≡ false
+    → FirstOpen (suc s) ds → FirstOpen s (d ∷ ds)
 further s d ds e closed F = record {
   place = suc (F .place);
   is = e ∙ F .is ∙ omega arith;
@@ -96,7 +97,8 @@ module _ (n : ℕ) (t : List ℕ) (b : Buffers) where
   vs = vertices first t
 
   -- a refusal leaves all as it was
-  pub refused-to : (x : Settlement) (r : Refusal) (cells taken : List ℕ) → DecidesTo n t b (Refused r) cells taken → x .outcome ≡ outcome.Refused r → SettlesTo n t b x (lent cells (b .order) taken)
+  pub refused-to : (x : Settlement) (r : Refusal) (cells taken : List ℕ) → DecidesTo n t b (Refused r) cells taken → x .outcome ≡ outcome.Refused r
+      → SettlesTo n t b x (lent cells (b .order) taken)
   unfolding settle settleIf cellsAfter takenAfter
   refused-to x r cells taken D o = let e = sym (D .answer) in record { outcome = rw e (ap outcomeTells o); cells = rw e (D .in-cells); order = rw e; taken = rw e (D .in-taken) }
 
@@ -137,7 +139,9 @@ module _ (n : ℕ) (t : List ℕ) (b : Buffers) where
 
     -- so they may be said of what `decide` leaves, too
     none-taken : taken ≡ bytesOver (λ p. 0) (length vs) taken
-    none-taken = rw (vertices-length first t) (untaken ∙ sym (ap (bytesOver (λ p. 0) (records first t)) untaken ∙ over-over (λ p. 0) (records first t) (b .taken) (λ p. 0)))
+    none-taken =
+        rw (vertices-length first t)
+        (untaken ∙ sym (ap (bytesOver (λ p. 0) (records first t)) untaken ∙ over-over (λ p. 0) (records first t) (b .taken) (λ p. 0)))
 
     room : length vs ≤ length taken
     room = let e = vertices-length first t in omega (arith, bytes, ap length untaken ∙ over-length (λ p. 0) (records first t) (b .taken) (omega (arith, bytes)))
@@ -164,14 +168,16 @@ module _ (n : ℕ) (t : List ℕ) (b : Buffers) where
         let same : length (takenBytes w (length vs)) ≡ records first t = length-tabulate _ (length vs) ∙ vertices-length first t in
         ap (λ d. takenBytes w (length vs) ++ d) (ap (λ m. drop (length (takenBytes w (length vs))) m) untaken ∙ drop-at (tabulate (λ p. 0) (records first t)) (drop (records first t) (b .taken)) _ (length-tabulate _ (records first t) ∙ sym same) ∙ ap (λ j. drop j (b .taken)) (sym same))
 
-    pub settled-to : (x : Settlement) (order′ taken′ : List ℕ) (counts : Counts) → x .outcome ≡ outcome.Settled counts → counts ≡ countsOf n vs ds (order (boxSetting n) n vs)
+    pub settled-to : (x : Settlement) (order′ taken′ : List ℕ) (counts : Counts) → x .outcome ≡ outcome.Settled counts
+        → counts ≡ countsOf n vs ds (order (boxSetting n) n vs)
         → order′ ≡ writtenOver (order (boxSetting n) n vs) (b .order) → taken′ ≡ writtenOver (takenBytes (order (boxSetting n) n vs) (length vs)) taken
         → SettlesTo n t b x (lent cells order′ taken′)
     unfolding settle settleIf settled order
     settled-to x order′ taken′ counts e q e2 e3 = let fits = sym (D .answer) in record { outcome = rw fits (ap outcomeTells e ∙ ap gives q); cells = rw fits decided-cells; order = rw fits e2; taken = rw fits (e3 ∙ past-records _) }
 
 -- the counts, one by one
-pub counts-are : (n : ℕ) (vs : List Vertex) (ds : List (Decision ℕ)) (w : List ℕ) (c : Counts) → c .records ≡ length vs → c .highest ≡ highest vs → c .undecided ≡ firstUndecided 1 ds
+pub counts-are : (n : ℕ) (vs : List Vertex) (ds : List (Decision ℕ)) (w : List ℕ) (c : Counts) → c .records ≡ length vs → c .highest ≡ highest vs
+    → c .undecided ≡ firstUndecided 1 ds
     → c .written ≡ length w → c .equivocators ≡ equivocators n vs → c ≡ countsOf n vs ds w
 unfolding countsOf
 counts-are n vs ds w c p q r s u = λ i. record { records = p i; highest = q i; undecided = r i; written = s i; equivocators = u i }

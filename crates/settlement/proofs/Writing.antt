@@ -69,7 +69,9 @@ module _ (m o : List ℕ) (count p c : ℕ) (m′ o′ : List ℕ) (P : Put m o 
   -- the byte at p is as before
   pub put-byte : p < length m → getD m′ p 0 ≡ getD m p 0
   unfolding bytesOver
-  put-byte l = ap (λ b. getD b p 0) (P .bytes ∙ ap (λ d. tabulate (doneAt m) p ++ d) (drop-cons m p 0 l)) ∙ getD-at (tabulate (doneAt m) p) (getD m p 0) (drop (suc p) m) 0 p (length-tabulate (doneAt m) p)
+  put-byte l =
+      ap (λ b. getD b p 0) (P .bytes ∙ ap (λ d. tabulate (doneAt m) p ++ d) (drop-cons m p 0 l))
+      ∙ getD-at (tabulate (doneAt m) p) (getD m p 0) (drop (suc p) m) 0 p (length-tabulate (doneAt m) p)
 
   pub put-no : p < length m → (getD m′ p 0 ≡ 2 → ⊥) → Put m o count (p + 1) c m′ o′
   put-no l d =
@@ -117,7 +119,8 @@ count-apart t u k h = omega (arith, count-and t u k, none)
         (λ e. ltb-false _ _ e)
 
 -- bytes of which some more are such already
-over-longer : (f : ℕ → ℕ) (k j : ℕ) (old : List ℕ) → k + j ≤ length old → ((q : ℕ) → k ≤ q → q < k + j → f q ≡ getD old q 0) → bytesOver f k old ≡ bytesOver f (k + j) old
+over-longer : (f : ℕ → ℕ) (k j : ℕ) (old : List ℕ) → k + j ≤ length old → ((q : ℕ) → k ≤ q → q < k + j → f q ≡ getD old q 0)
+    → bytesOver f k old ≡ bytesOver f (k + j) old
 over-longer f k zero old l h = let e : k + 0 ≡ k = omega arith in rw e
 over-longer f k (suc j) old l h =
     let e : k + suc j ≡ k + j + 1 = omega arith in
@@ -141,7 +144,9 @@ module _ {n : ℕ} {vs : List Vertex} {step : StepRule} (A : Accepted n vs) (W :
   belongs q = getD (history step vs a) q false
 
   marked-byte : (q : ℕ) → q < length vs → getD m₁ q 0 ≡ byteOf (written m q) (belongs q)
-  marked-byte q lq = ap (λ b. getD b q 0) (D .bytes) ∙ over-at (dueFrom step vs a 0 m) (length vs) m q lq ∙ ap (byteOf (written m q)) (marked-history A W a l 0 q lq (omega arith))
+  marked-byte q lq =
+      ap (λ b. getD b q 0) (D .bytes) ∙ over-at (dueFrom step vs a 0 m) (length vs) m q lq
+      ∙ ap (byteOf (written m q)) (marked-history A W a l 0 q lq (omega arith))
 
   due-is-fresh : (q : ℕ) → q < length vs → due m₁ q ≡ belongs q and not (written m q)
   due-is-fresh q lq = ap (λ x. eqb x 2) (marked-byte q lq) ∙ due-bit (written m q) (belongs q)
@@ -157,7 +162,8 @@ module _ {n : ℕ} {vs : List Vertex} {step : StepRule} (A : Accepted n vs) (W :
   led-room count e =
       omega (arith, count-up (due m₁) (a + 1) (length vs) (omega arith), count-apart (written m) (due m₁) (length vs) (λ q lq w d. not-both w (not-true _ (and-right _ _ (sym (due-is-fresh q lq) ∙ d)))))
 
-  pub led : (count r : ℕ) (o o′ m₂ : List ℕ) → o′ ≡ placesOver count (filterTo (due m₁) (a + 1)) o → m₂ ≡ bytesOver (doneAt m₁) (a + 1) m₁ → r ≡ count + countTo (due m₁) (a + 1) → Led step vs a count o m r o′ m₂
+  pub led : (count r : ℕ) (o o′ m₂ : List ℕ) → o′ ≡ placesOver count (filterTo (due m₁) (a + 1)) o → m₂ ≡ bytesOver (doneAt m₁) (a + 1) m₁
+      → r ≡ count + countTo (due m₁) (a + 1) → Led step vs a count o m r o′ m₂
   led count r o o′ m₂ p b e = record {
     places = p ∙ ap (λ w. placesOver count w o) due-list;
     bytes = b ∙ whole ∙ ap (bytesOver (doneAt m₁) (length vs)) (D .bytes) ∙ over-over _ (length vs) m _ ∙ over-same _ (length vs) m _ (λ q lq. ap (λ x. cond (eqb x 2) 1 x) (marked-byte q lq) ∙ done-bit (written m q) (belongs q));
@@ -170,4 +176,5 @@ module _ {n : ℕ} {vs : List Vertex} {step : StepRule} (A : Accepted n vs) (W :
       whole : bytesOver (doneAt m₁) (a + 1) m₁ ≡ bytesOver (doneAt m₁) (length vs) m₁
       whole =
           let w : a + 1 + (length vs - (a + 1)) ≡ length vs = omega arith in
-          over-longer (doneAt m₁) (a + 1) (length vs - (a + 1)) m₁ (rw (w, marked-length) room) (λ q h k. past q h (omega arith)) ∙ ap (λ k. bytesOver (doneAt m₁) k m₁) w
+          over-longer (doneAt m₁) (a + 1) (length vs - (a + 1)) m₁ (rw (w, marked-length) room) (λ q h k. past q h (omega arith))
+          ∙ ap (λ k. bytesOver (doneAt m₁) k m₁) w

@@ -1,2 +1,3 @@
+pub mod Twins
 pub mod Write
 pub mod Promise

@@ -6,7 +6,7 @@ use mathlib.Core.Bool.{Bool, true, false, not, cond}
 use mathlib.Core.List.{List, _++_}
 use lib.ListN.{length, getD, set, take, drop}
 use lib.Dec.{eqb}
-use Rattle.folds.specs.Folds.{_and_, _or_, bit, filterTo, bytesOver}
+use Rattle.folds.specs.Folds.{_and_, _or_, bit, countTo, filterTo, bytesOver}
 use Rattle.rules.specs.declared.Vertex.{Vertex}
 use Rattle.rules.specs.Record.{Edition, vertices, at, nameOf}
 use Rattle.rules.specs.History.{StepRule, history}
@@ -71,6 +71,14 @@ pub record MarkedDown (step : StepRule) (vs : List Vertex) (a : ℕ) (old : List
   pub bytes : new ≡ bytesOver (dueFrom step vs a 0 old) (length vs) old
   pub lower : low ≤ a
   pub none-below : (q : ℕ) → q < low → getD new q 0 ≡ 2 → ⊥
+
+-- What is due stands from `low` up to a, and there are places for it from `count` on.
+pub record DueTo (a low count : ℕ) (order taken : List ℕ) : Type 0 where
+  pub few : a < 4096
+  pub within : a < length taken
+  pub lower : low ≤ a
+  pub none-below : (q : ℕ) → q < low → getD taken q 0 ≡ 2 → ⊥
+  pub places : count + countTo (due taken) (a + 1) ≤ length order
 
 -- The positions of the history of the leader vertex at a that are not written, rising.
 abbrev pub fresh : StepRule → List Vertex → ℕ → List ℕ → List ℕ

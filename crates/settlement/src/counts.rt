@@ -3,9 +3,10 @@ ghost use mathlib.Core.Path.{_≡_};
 ghost use Prim.Native.Nat.{_+_, _-_, _<_, _≤_};
 ghost use lib.Dec.{eqb};
 ghost use lib.ListN.{length, getD};
-ghost use Rattle.folds.specs.Folds.{_and_, bit, firstTo, countTo, tabulate};
-ghost use Rattle.rules.specs.Record.{first, at};
+ghost use Rattle.folds.specs.Folds.{bit, firstTo, countTo, tabulate};
+ghost use Rattle.rules.specs.Record.{first};
 ghost use Rattle.rules.specs.Settlement.{equivocates, equivocators};
+ghost use Rattle.settlement.specs.Twins.{side};
 ghost use Rattle.decide.specs.Ready.{verticesOf, recordsOf, Sound};
 
 // The first slot whose cell is 0, counted from 1; past the last if there is none.
@@ -26,7 +27,7 @@ pub(crate) fn first_undecided(cells: &[u32], top: usize) -> usize
 // The records at p and after it are of one author and one round.
 fn twins(table: &[u8], p: usize) -> bool
     requires { ⌜ p + 1 < recordsOf (now table) ⌝ }
-    ensures { λ r. ⌜ r ≡ eqb (at (verticesOf (now (table .entry))) p .round) (at (verticesOf (now (table .entry))) (p + 1) .round) and eqb (at (verticesOf (now (table .entry))) p .author) (at (verticesOf (now (table .entry))) (p + 1) .author) ⌝ }
+    ensures { λ r. ⌜ r ≡ side (verticesOf (now (table .entry))) p ⌝ }
 {
     let x = record::name_of(record::part(table, p));
     let y = record::name_of(record::part(table, p + 1));

@@ -1,7 +1,7 @@
 // The written order, and the taken bytes: 1 written, 2 to be written next, 0 neither.
 ghost use mathlib.Core.Path.{_≡_};
 ghost use mathlib.Core.Bool.{cond};
-ghost use Prim.Native.Nat.{ℕ, _+_, _<_, _≤_};
+ghost use Prim.Native.Nat.{_+_, _<_};
 ghost use lib.ListN.{length, getD};
 ghost use Rattle.folds.specs.Folds.{countTo, filterTo};
 ghost use Rattle.rules.specs.Record.{first};
@@ -9,7 +9,7 @@ ghost use Rattle.rules.specs.Support.{references};
 ghost use Rattle.rules.specs.Decide.{boxSetting, highest};
 ghost use Rattle.folds.specs.Folds.{bytesOver};
 ghost use Rattle.decide.specs.Ready.{verticesOf, recordsOf, Ready};
-ghost use Rattle.settlement.specs.Write.{Fits, Decided, placesOver, written, due, Told, MarkedOne, MarkedMore, MarkedDown, Led, Ordered};
+ghost use Rattle.settlement.specs.Write.{DueTo, Fits, Decided, placesOver, written, due, Told, MarkedOne, MarkedMore, MarkedDown, Led, Ordered};
 use references::places_of;
 
 // A position is marked unless it is written or marked already. Answers it if it is marked here and lower than `low`, and else `low`.
@@ -31,7 +31,7 @@ fn mark_more(n: u8, table: &[u8], p: usize, low: usize, taken: &mut [u8]) -> usi
     requires { ⌜ p < recordsOf (now table) ⌝ }
     ensures { λ r. ⌜ MarkedMore references (verticesOf (now (table .entry))) p low (now (taken .entry)) r (now (taken .exit)) ⌝ }
 {
-    let places = places_of(table, p);
+    let places = places_of(n, table, p);
     let k = n as usize;
     let mut lowest = low;
     let mut i: usize = 0;
@@ -65,11 +65,7 @@ fn mark_down(n: u8, table: &[u8], a: usize, taken: &mut [u8]) -> usize
 
 // What is marked from `low` up to a is written, in table order, from place `count` on. Answers the count then.
 fn write_marked(a: usize, low: usize, order: &mut [u32], taken: &mut [u8], count: usize) -> usize
-    requires { ⌜ a < 4096 ⌝ }
-    requires { ⌜ a < length (now taken) ⌝ }
-    requires { ⌜ low ≤ a ⌝ }
-    requires { ⌜ ((q : ℕ) → q < low → getD (now taken) q 0 ≡ 2 → ⊥) ⌝ }
-    requires { ⌜ count + countTo (due (now taken)) (a + 1) ≤ length (now order) ⌝ }
+    requires { ⌜ DueTo a low count (now order) (now taken) ⌝ }
     ensures { λ r. ⌜ now (order .exit) ≡ placesOver count (filterTo (due (now (taken .entry))) (a + 1)) (now (order .entry)) ⌝ }
     ensures { λ r. ⌜ now (taken .exit) ≡ bytesOver (λ q. cond (due (now (taken .entry)) q) 1 (getD (now (taken .entry)) q 0)) (a + 1) (now (taken .entry)) ⌝ }
     ensures { λ r. ⌜ r ≡ count + countTo (due (now (taken .entry))) (a + 1) ⌝ }
@@ -100,7 +96,8 @@ fn write_leader(
     requires { ⌜ a < recordsOf (now table) ⌝ }
     requires { ⌜ Told references (verticesOf (now table)) (now taken) ⌝ }
     requires { ⌜ count ≡ countTo (written (now taken)) (recordsOf (now table)) ⌝ }
-    ensures { λ r. ⌜ Led references (verticesOf (now (table .entry))) a count (now (order .entry)) (now (taken .entry)) r (now (order .exit)) (now (taken .exit)) ⌝ }
+    ensures { λ r. ⌜ Led references (verticesOf (now (table .entry))) a count (now (order .entry)) (now (taken .entry)) r (now (order .exit))
+        (now (taken .exit)) ⌝ }
 {
     let low = mark_down(n, table, a, taken);
     write_marked(a, low, order, taken, count)
@@ -117,7 +114,8 @@ pub(crate) fn write_order(
 ) -> usize
     requires { ⌜ Decided (boxSetting n) first n (now table) (now cells) (now order) (now taken) ⌝ }
     requires { ⌜ top ≡ highest (verticesOf (now table)) ⌝ }
-    ensures { λ r. ⌜ Ordered (boxSetting n) n (verticesOf (now (table .entry))) (now (order .entry)) (now (taken .entry)) r (now (order .exit)) (now (taken .exit)) ⌝ }
+    ensures { λ r. ⌜ Ordered (boxSetting n) n (verticesOf (now (table .entry))) (now (order .entry)) (now (taken .entry)) r (now (order .exit))
+        (now (taken .exit)) ⌝ }
 {
     let mut count: usize = 0;
     let mut s: usize = 0;

@@ -43,7 +43,8 @@ clear-requires : tie.Need-clear-requires
 clear-requires c κs =
     let d = c .before .before .before .before .before in
     let h = d .before .before .before .before .before .before in
-    lent-length (d .decide-all .last .1 .1 .1 .0) (h .before .before .before .before .before .before .before .before .before .args .taken .now) (h .before .records-of .result) (omega arith) (d .decide-all .ensures .1)
+    lent-length (d .decide-all .last .1 .1 .1 .0) (h .before .before .before .before .before .before .before .before .before .args .taken .now)
+    (h .before .records-of .result) (omega arith) (d .decide-all .ensures .1)
 
 returns-5 : tie.Need-returns-5
 returns-5 c =
@@ -51,7 +52,9 @@ returns-5 c =
     let fit = d .before .before .before in
     let h = fit .before .before .before in
     let passes = goes-on (h .before .before .before .before .check .ensures) (h .before .before .enum-told .given .1) in
-    let cleared = past-records (d .decide-all .last .1 .1 .1 .0) (h .before .before .before .before .before .before .before .before .before .args .taken .now) (h .before .records-of .result) (omega (arith, fit .if3 .left)) (d .decide-all .ensures .1) (λ p. 0) in
+    let cleared =
+    past-records (d .decide-all .last .1 .1 .1 .0) (h .before .before .before .before .before .before .before .before .before .args .taken .now)
+    (h .before .records-of .result) (omega (arith, fit .if3 .left)) (d .decide-all .ensures .1) (λ p. 0) in
     decided-to
     _ _ _
     passes

@@ -47,7 +47,8 @@ cast-undecided c =
     let h = c .before .before .before .before .before .before .before .before .before .before .before in
     let D = settled.decided _ _ _ _ _ (rw (h .before .enum-told .given .1) at (h .before .before .before .before .before .before .before .decide .ensures)) in
     let cells = h .before .before .before .before .before .before .before .decide .last .1 .1 .0 in
-    omega (arith, c .first-undecided .ensures, open-low (λ j. eqb (getD cells j 0) 0) (h .highest-of .result), h .highest-of .ensures, D .fits .ready .sound .rounds)
+    omega
+    (arith, c .first-undecided .ensures, open-low (λ j. eqb (getD cells j 0) 0) (h .highest-of .result), h .highest-of .ensures, D .fits .ready .sound .rounds)
 
 equivocators-of-requires : tie.Need-equivocators-of-requires
 equivocators-of-requires c κs =
@@ -73,11 +74,15 @@ returns-2 c =
     let vs = vertices first t in
     let ds = decisions (boxSetting n) n vs in
     let size : h .highest-of .result ≡ length ds = top ∙ sym (decisions-length (boxSetting n) n vs) in
-    let held : (j : ℕ) → j < h .highest-of .result → getD cells j 0 ≡ cell (decisionAt ds j) = λ j l. settled.decided n t b cells taken D .in-cells .held j (omega arith) (omega (arith, top)) in
+    let held : (j : ℕ) → j < h .highest-of .result → getD cells j 0 ≡ cell (decisionAt ds j) =
+    λ j l. settled.decided n t b cells taken D .in-cells .held j (omega arith) (omega (arith, top)) in
     let counts : Counts = record { records = r .records-of .result; highest = h .highest-of .result; undecided = f .first-undecided .result; written = w .write-order .result; equivocators = c .equivocators-of .result } in
     let O = w .write-order .ensures in
-    let are = counts-are n vs ds (order (boxSetting n) n vs) counts (r .records-of .ensures ∙ sym (vertices-length first t)) top (f .first-undecided .ensures ∙ open-cell ds cells (h .highest-of .result) size held) (O .counted) (c .equivocators-of .ensures) in
-    settled.settled-to n t b cells taken D (record { outcome = outcome.Settled counts }) (w .write-order .last .1 .1 .1 .1 .0) (w .write-order .last .1 .1 .1 .1 .1 .0) counts refl are (O .places) (O .bytes)
+    let are =
+    counts-are n vs ds (order (boxSetting n) n vs) counts (r .records-of .ensures ∙ sym (vertices-length first t)) top
+    (f .first-undecided .ensures ∙ open-cell ds cells (h .highest-of .result) size held) (O .counted) (c .equivocators-of .ensures) in
+    settled.settled-to n t b cells taken D (record { outcome = outcome.Settled counts }) (w .write-order .last .1 .1 .1 .1 .0)
+    (w .write-order .last .1 .1 .1 .1 .1 .0) counts refl are (O .places) (O .bytes)
 
 pub settle-spec : {M : Type 1} → statement M
 settle-spec =

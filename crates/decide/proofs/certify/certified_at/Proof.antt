@@ -15,7 +15,8 @@ returns c =
     let a = s .args in
     let A = s .pre .0 .accepted in
     found-is (a .table .now) _ (c .find .result) A (rw (k .records-of .ensures) at (c .find .ensures))
-    ∙ rw (e .enough-of .ensures, e .before .quorum-of .ensures, b .backing .ensures) (certified-is A (a .w) (a .leader) (s .pre .1 .0) (a .round) (s .pre .1 .1))
+    ∙ rw (e .enough-of .ensures, e .before .quorum-of .ensures, b .backing .ensures)
+    (certified-is A (a .w) (a .leader) (s .pre .1 .0) (a .round) (s .pre .1 .1))
 
 pub certified-at-spec : {M : Type 1} → statement M
 certified-at-spec =

@@ -2,15 +2,13 @@
 -- The measure is the vertices that are left.
 -- Assumes nothing.
 use Prim.Native.Nat.{_+_, _-_, _≤_}
-use mathlib.Core.Path.{_≡_, sym, _∙_}
-use lib.Dec.{leb}
+use mathlib.Core.Path.{sym, _∙_}
 use borrow.Author.Tests.{le-leb, lt-leb}
 use Rattle.rules.specs.Authors.{quorum}
-use Rattle.rules.specs.Record.{first, vertices, at}
+use Rattle.rules.specs.Record.{first, vertices}
 use Rattle.rules.specs.Support.{directCommit}
 use Rattle.decide.specs.Work.{authorsTagged}
-use Rattle.decide.proofs.Ranges.{InSlot, in-slot}
-use Rattle.decide.proofs.Tagging.{commit-tagged}
+use Rattle.decide.proofs.Tagging.{window-commit}
 use Rattle.decide.proofs.Commits.{FailTo, fail-next, from-found, from-none}
 use native.Mathlib.Omega.{arith}
 use borrow.Author.Needs.{needs}
@@ -31,27 +29,26 @@ returns c =
     let l = c .before .before .before in
     let s = l .before .before .before .before in
     let a = s .args in
-    let t = a .table .now in
+    let vs = vertices first (a .table .now) in
     let p = l .loop .p in
-    let i : InSlot (vertices first t) (a .round) (a .leader) p = in-slot (s .pre .0 .sound .accepted) (a .round) (a .leader) p (omega (arith, s .pre .1 .1 .1 .0)) (omega (arith, s .pre .1 .1 .1 .1 .0)) in
-    let k = authorsTagged (a .n) (vertices first t) (a .round + 2) (p - a .b + 1) (a .work .now) in
-    let is : leb (quorum (a .n)) k ≡ directCommit (a .n) (vertices first t) (at (vertices first t) p) = commit-tagged (s .pre .0 .sound .accepted) (a .round) (a .leader) (a .b) (a .e) p (a .work .now) (s .pre .1 .1 .1 .1 .1) (l .loop .inv .0) (omega arith) i in
-    from-found (vertices first t) (directCommit (a .n) (vertices first t)) (a .b) (a .e) p (l .loop .inv .0) (omega arith) (l .loop .inv .2) (sym is ∙ le-leb (quorum (a .n)) k (omega (arith, c .if1 .taken, c .before .authors-tagged .ensures, l .before .quorum-of .ensures)))
+    let is = window-commit (s .pre .0 .sound .accepted) (s .pre .1 .1) p (l .loop .inv .0) (omega arith) in
+    let enough =
+    le-leb (quorum (a .n)) (authorsTagged (a .n) vs (a .round + 2) (p - a .b + 1) (a .work .now))
+    (omega (arith, c .if1 .taken, c .before .authors-tagged .ensures, l .before .quorum-of .ensures)) in
+    from-found vs (directCommit (a .n) vs) (a .b) (a .e) p (l .loop .inv .0) (omega arith) (l .loop .inv .2) (sym is ∙ enough)
 
 loop-again : tie.Need-loop-again Inv-loop μ-loop
 loop-again c =
     let l = c .before .before .before in
     let s = l .before .before .before .before in
     let a = s .args in
-    let t = a .table .now in
+    let vs = vertices first (a .table .now) in
     let p = l .loop .p in
-    let i : InSlot (vertices first t) (a .round) (a .leader) p = in-slot (s .pre .0 .sound .accepted) (a .round) (a .leader) p (omega (arith, s .pre .1 .1 .1 .0)) (omega (arith, s .pre .1 .1 .1 .1 .0)) in
-    let k = authorsTagged (a .n) (vertices first t) (a .round + 2) (p - a .b + 1) (a .work .now) in
-    let is : leb (quorum (a .n)) k ≡ directCommit (a .n) (vertices first t) (at (vertices first t) p) = commit-tagged (s .pre .0 .sound .accepted) (a .round) (a .leader) (a .b) (a .e) p (a .work .now) (s .pre .1 .1 .1 .1 .1) (l .loop .inv .0) (omega arith) i in (
-      omega arith,
-      omega arith,
-      fail-next (vertices first t) (directCommit (a .n) (vertices first t)) (a .b) p (l .loop .inv .2) (sym is ∙ lt-leb (quorum (a .n)) k (omega (arith, c .if1 .left, c .before .authors-tagged .ensures, l .before .quorum-of .ensures))),
-    )
+    let is = window-commit (s .pre .0 .sound .accepted) (s .pre .1 .1) p (l .loop .inv .0) (omega arith) in
+    let few =
+    lt-leb (quorum (a .n)) (authorsTagged (a .n) vs (a .round + 2) (p - a .b + 1) (a .work .now))
+    (omega (arith, c .if1 .left, c .before .authors-tagged .ensures, l .before .quorum-of .ensures)) in
+    (omega arith, omega arith, fail-next vs (directCommit (a .n) vs) (a .b) p (l .loop .inv .2) (sym is ∙ few))
 
 returns-2 : tie.Need-returns-2 Inv-loop μ-loop
 returns-2 c =

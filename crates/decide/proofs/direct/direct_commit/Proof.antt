@@ -19,7 +19,8 @@ use Rattle.decide.proofs.direct.direct_commit.Statement.{statement}
 use Rattle.decide.proofs.direct.direct_commit.Tie as tie
 
 abbrev Inv-loop : tie.InvT-loop
-Inv-loop n table round leader work₀ end b₀ work b = (b₀ ≤ b) × (b ≤ end) × Retagged work₀ work × FailTo (vertices first table) (directCommit n (vertices first table)) b₀ b
+Inv-loop n table round leader work₀ end b₀ work b =
+    (b₀ ≤ b) × (b ≤ end) × Retagged work₀ work × FailTo (vertices first table) (directCommit n (vertices first table)) b₀ b
 
 abbrev μ-loop : tie.MeasureT-loop
 μ-loop n table round leader work₀ end b₀ work b = end - b
@@ -29,7 +30,8 @@ loop-holds c =
     let s = c .before .before .before .before in
     let a = s .args in
     let t = a .table .now in
-    let m : startOf (vertices first t) (a .round) (a .leader) ≤ startOf (vertices first t) (a .round) (a .leader + 1) = start-mono (s .pre .0 .sound .accepted) (a .round) (a .leader) (a .round) (a .leader + 1) (inr (refl, omega arith)) in
+    let m : startOf (vertices first t) (a .round) (a .leader) ≤ startOf (vertices first t) (a .round) (a .leader + 1) =
+    start-mono (s .pre .0 .sound .accepted) (a .round) (a .leader) (a .round) (a .leader + 1) (inr (refl, omega arith)) in
     (omega arith, omega (arith, m, c .before .begin .ensures, c .begin2 .ensures), retagged-same (a .work .now), λ p l h. absurd (omega arith))
 
 add-smaller : tie.Need-add-smaller Inv-loop μ-loop
@@ -55,8 +57,9 @@ commit-in-requires c κs =
     let still = g .tag-certified .ensures .retagged .same-length ∙ l .loop .inv .2 .same-length in
     let within : m .smaller .result ≤ l .loop .b + 127 = omega (arith, m .smaller .ensures) in
     let from-on : startOf (vertices first (s .args .table .now)) (s .args .round) (s .args .leader) ≤ l .loop .b = omega (arith, b .begin2 .ensures) in
-    let up-to : m .smaller .result ≤ startOf (vertices first (s .args .table .now)) (s .args .round) (s .args .leader + 1) = omega (arith, m .smaller .ensures, b .before .begin .ensures) in
-    (ready-on (s .pre .0) still, (s .pre .1 .0, (within, (from-on, (up-to, g .tag-certified .ensures .tags)))))
+    let up-to : m .smaller .result ≤ startOf (vertices first (s .args .table .now)) (s .args .round) (s .args .leader + 1) =
+    omega (arith, m .smaller .ensures, b .before .begin .ensures) in
+    (ready-on (s .pre .0) still, (s .pre .1 .0, record { few = within; from-on = from-on; up-to = up-to; tags = g .tag-certified .ensures .tags }))
 
 same-length : tie.Need-same-length Inv-loop μ-loop
 same-length c =

@@ -53,14 +53,10 @@ certified-at-requires c κs =
     let l = c .before .before .before in
     let b = l .before .before .before in
     let s = b .before .before .before in
-    let n = s .args .n in
-    let t = s .args .table .now in
-    let A = s .pre .0 .sound .accepted in
-    let r = s .args .round in
     let S = s .pre .1 .1 .0 in
-    let la : s .args .a < length (vertices first t) = S .within in
-    let at-end : b .begin .result ≡ startOf (vertices first t) (r + 3) 0 = b .begin .ensures in
-    let here = two-up-in A r (s .args .leader) (s .args .a) la (l .loop .w) (l .loop .inv .0) (omega arith) in
+    let here =
+    two-up-in (s .pre .0 .sound .accepted) (s .args .round) (s .args .leader) (s .args .a) (S .within) (l .loop .w) (l .loop .inv .0)
+    (omega (arith, b .begin .ensures)) in
     (s .pre .0 .sound, (here .within, here .round))
 
 loop-again : tie.Need-loop-again Inv-loop μ-loop
@@ -68,22 +64,18 @@ loop-again c =
     let l = c .before .before .before in
     let b = l .before .before .before in
     let s = b .before .before .before in
-    let n = s .args .n in
-    let t = s .args .table .now in
     let A = s .pre .0 .sound .accepted in
     let r = s .args .round in
     let S = s .pre .1 .1 .0 in
-    let la : s .args .a < length (vertices first t) = S .within in
-    let at-end : b .begin .result ≡ startOf (vertices first t) (r + 3) 0 = b .begin .ensures in
-    let here = two-up-in A r (s .args .leader) (s .args .a) la (l .loop .w) (l .loop .inv .0) (omega arith) in
-    let byte = told-byte A r (s .args .leader) (s .args .a) la (s .args .done) (s .args .work .now) S (s .pre .1 .1 .1) (l .loop .w) here in
+    let here = two-up-in A r (s .args .leader) (s .args .a) (S .within) (l .loop .w) (l .loop .inv .0) (omega (arith, b .begin .ensures)) in
+    let byte = told-byte A r (s .args .leader) (s .args .a) (S .within) (s .args .done) (s .args .work .now) S (s .pre .1 .1 .1) (l .loop .w) here in
     ⊎-elim
     (λ w.
     let member = bit-yes _ (λ z. omega (arith, byte ∙ z, w .0 .taken)) in
-    (omega arith, omega arith, w .3 ∙ w .2 .ensures ∙ ap₂ min (l .loop .inv .2) (w .1 .ensures) ∙ sym (told-yes A r (s .args .leader) (s .args .a) la (l .loop .w) member)))
+    (omega arith, omega arith, w .3 ∙ w .2 .ensures ∙ ap₂ min (l .loop .inv .2) (w .1 .ensures) ∙ sym (told-yes A r (s .args .leader) (s .args .a) (S .within) (l .loop .w) member)))
     (λ w.
     let other = bit-no _ (sym byte ∙ omega (arith, w .0 .left)) in
-    (omega arith, omega arith, w .1 ∙ l .loop .inv .2 ∙ sym (told-no A r (s .args .leader) (s .args .a) la (l .loop .w) other)))
+    (omega arith, omega arith, w .1 ∙ l .loop .inv .2 ∙ sym (told-no A r (s .args .leader) (s .args .a) (S .within) (l .loop .w) other)))
     (c .if1 .came)
 
 returns : tie.Need-returns Inv-loop μ-loop
@@ -91,14 +83,8 @@ returns c =
     let l = c .before in
     let b = l .before .before .before in
     let s = b .before .before .before in
-    let n = s .args .n in
-    let t = s .args .table .now in
-    let A = s .pre .0 .sound .accepted in
-    let r = s .args .round in
-    let S = s .pre .1 .1 .0 in
-    let la : s .args .a < length (vertices first t) = S .within in
-    let e : l .loop .w ≡ startOf (vertices first t) (r + 3) 0 = omega (arith, b .begin .ensures) in
-    rw e at (l .loop .inv .2) ∙ told-end A r (s .args .leader) (s .args .a) la
+    let e : l .loop .w ≡ startOf (vertices first (s .args .table .now)) (s .args .round + 3) 0 = omega (arith, b .begin .ensures) in
+    rw e at (l .loop .inv .2) ∙ told-end (s .pre .0 .sound .accepted) (s .args .round) (s .args .leader) (s .args .a) (s .pre .1 .1 .0 .within)
 
 pub certified-in-spec : {M : Type 1} → statement M
 certified-in-spec =

@@ -54,7 +54,7 @@ loop-again c =
     let m = l .loop .work in
     let i = l .loop .i in
     let A = s .pre .0 .sound .accepted in
-    let q : getD (P .places-of .result) i 0 ≡ getD (placesOf t p) i 0 = ap (λ x. getD x i 0) (P .places-of .ensures) in
+    let q : getD (P .places-of .result) i 0 ≡ getD (placesOf (s .args .n) t p) i 0 = ap (λ x. getD x i 0) (P .places-of .ensures) in
     let few : i < 31 = omega (arith, A .few) in
     ⊎-elim
     (λ w.

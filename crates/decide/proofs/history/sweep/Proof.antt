@@ -4,7 +4,6 @@ use Prim.Native.Nat.{suc, _-_, _≤_, _<_}
 use mathlib.Core.Path.{_≡_, refl, _∙_, subst}
 use lib.ListN.{length}
 use Rattle.rules.specs.Record.{first, vertices}
-use Rattle.rules.proofs.Accepted.{accepted}
 use Rattle.decide.specs.Sweep.{Swept}
 use Rattle.decide.proofs.Marked.{by-references}
 use Rattle.decide.proofs.Sweeps.{swept-same, swept-next}

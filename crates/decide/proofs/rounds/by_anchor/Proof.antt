@@ -46,13 +46,15 @@ through-anchor-requires c κs =
     let H = T .before in
     let I = H .before .before .before .before .pre in
     let found = anchor-cell I _ _ (H .highest-of .ensures) (T .stop-at .ensures) (c .before .before .before .if1 .left) (c .before .if2 .left) .1 in
-    (I .ready, (I .from-one, (round-low I, (found .within, (found .above, I .walked)))))
+    record { ready = I .ready; from-one = I .from-one; low = round-low I; within = found .within; above = found .above; walked = I .walked }
 
 returns-3 : tie.Need-returns-3
 returns-3 c =
     let T = c .before .before .before .before .before .before .before in
     let H = T .before in
-    told-through (H .before .before .before .before .pre) _ _ (H .highest-of .ensures) (T .stop-at .ensures) (c .before .before .before .before .before .before .if1 .left) (c .before .before .before .before .if2 .left) _ _ _ _ (c .before .before .through-anchor .ensures)
+    told-through (H .before .before .before .before .pre) _ _ (H .highest-of .ensures) (T .stop-at .ensures)
+    (c .before .before .before .before .before .before .if1 .left) (c .before .before .before .before .if2 .left) _ _ _ _
+    (c .before .before .through-anchor .ensures)
 
 pub by-anchor-spec : {M : Type 1} → statement M
 by-anchor-spec =

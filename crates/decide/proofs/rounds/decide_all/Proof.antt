@@ -67,7 +67,9 @@ loop-again c =
     let s = l .before .before .before .before .before .before in
     let vs = vertices first (s .args .table .now) in
     let T = r .decide-one .ensures in
-    let cells = cells-next (s .args .n) vs (s .args .cells .now) (s .pre .1) (l .loop .round) (r .decide-one .result .cell) (l .loop .cells) (omega arith) (l .loop .inv .0) (T .in-cell) (l .loop .inv .1) in
+    let cells =
+    cells-next (s .args .n) vs (s .args .cells .now) (s .pre .1) (l .loop .round) (r .decide-one .result .cell) (l .loop .cells) (omega arith)
+    (l .loop .inv .0) (T .in-cell) (l .loop .inv .1) in
     (omega (arith, l .loop .inv .0), cells, T .same-length ∙ l .loop .inv .2, T .walked)
 
 same-length : tie.Need-same-length Inv-loop μ-loop

@@ -30,7 +30,8 @@ returns c =
     let D = c .before .before .before .before .direct-commit in
     let L = c .before .before .before .before .before .before in
     let I = L .before .before .before .before .before .pre in
-    told-commit I (D .result) _ (L .before .records-of .ensures) (rw (L .leader-of .ensures) at (D .ensures .0)) _ (D .ensures .1) (c .before .if1 .taken) (c .cell-of .result) (c .cell-of .ensures)
+    told-commit I (D .result) _ (L .before .records-of .ensures) (rw (L .leader-of .ensures) at (D .ensures .0)) _ (D .ensures .1) (c .before .if1 .taken)
+    (c .cell-of .result) (c .cell-of .ensures)
 
 direct-skip-requires : tie.Need-direct-skip-requires
 direct-skip-requires c κs =
@@ -44,7 +45,8 @@ returns-2 c =
     let K = c .before .before .before .direct-skip in
     let I = L .before .before .before .before .before .pre in
     let both = retagged-on _ _ _ (D .ensures .1) (K .ensures .1) in
-    told-skip I (D .result) _ (L .before .records-of .ensures) (rw (L .leader-of .ensures) at (D .ensures .0)) _ both (c .before .before .before .before .before .if1 .left) (sym (rw (L .leader-of .ensures) at (K .ensures .0)) ∙ c .if2 .taken)
+    told-skip I (D .result) _ (L .before .records-of .ensures) (rw (L .leader-of .ensures) at (D .ensures .0)) _ both
+    (c .before .before .before .before .before .if1 .left) (sym (rw (L .leader-of .ensures) at (K .ensures .0)) ∙ c .if2 .taken)
 
 by-anchor-requires : tie.Need-by-anchor-requires
 by-anchor-requires c κs =
@@ -58,7 +60,9 @@ returns-3 c =
     let K = c .before .before .before .before .before .before .before .direct-skip in
     let I = L .before .before .before .before .before .pre in
     let both = retagged-on _ _ _ (D .ensures .1) (K .ensures .1) in
-    told-on I (D .result) _ (L .before .records-of .ensures) (rw (L .leader-of .ensures) at (D .ensures .0)) _ both (c .before .before .before .before .before .before .before .before .before .if1 .left) (sym (rw (L .leader-of .ensures) at (K .ensures .0)) ∙ c .before .before .before .before .if2 .left) _ _ _ _ (c .before .before .by-anchor .ensures)
+    told-on I (D .result) _ (L .before .records-of .ensures) (rw (L .leader-of .ensures) at (D .ensures .0)) _ both
+    (c .before .before .before .before .before .before .before .before .before .if1 .left)
+    (sym (rw (L .leader-of .ensures) at (K .ensures .0)) ∙ c .before .before .before .before .if2 .left) _ _ _ _ (c .before .before .by-anchor .ensures)
 
 pub decide-one-spec : {M : Type 1} → statement M
 decide-one-spec =

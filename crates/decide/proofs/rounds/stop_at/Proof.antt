@@ -36,7 +36,8 @@ returns-2 : tie.Need-returns-2 Inv-loop μ-loop
 returns-2 c =
     let l = c .before .before .before in
     let a = l .before .args in
-    let slot : l .loop .t - 1 ≡ stopAt (a .cells .now) (a .round + 2) (a .top) = stop-here (a .cells .now) (a .round + 2) (a .top) (l .loop .t - 1) (omega arith) (l .loop .inv .1) (omega arith) (c .if2 .taken) in
+    let slot : l .loop .t - 1 ≡ stopAt (a .cells .now) (a .round + 2) (a .top) =
+    stop-here (a .cells .now) (a .round + 2) (a .top) (l .loop .t - 1) (omega arith) (l .loop .inv .1) (omega arith) (c .if2 .taken) in
     omega (arith, slot, l .loop .inv .0)
 
 pub stop-at-spec : {M : Type 1} → statement M

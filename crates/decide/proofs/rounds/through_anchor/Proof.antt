@@ -11,26 +11,26 @@ use Rattle.decide.proofs.rounds.through_anchor.Statement.{statement}
 use Rattle.decide.proofs.rounds.through_anchor.Tie as tie
 
 leader-of-requires : tie.Need-leader-of-requires
-leader-of-requires c κs = let s = c .before .before .before in (omega (arith, s .pre .0 .sound .accepted .count), omega arith)
+leader-of-requires c κs = let s = c .before .before .before in (omega (arith, s .pre .ready .sound .accepted .count), omega arith)
 
 walk-to-requires : tie.Need-walk-to-requires
 walk-to-requires c κs =
     let b = c .before in
     let s = b .before .before .before .before .before in
-    (s .pre .0, (s .pre .1 .1 .1 .0, (omega (arith, b .begin .ensures, s .pre .1 .1 .1 .1 .0), s .pre .1 .1 .1 .1 .1)))
+    (s .pre .ready, (s .pre .within, (omega (arith, b .begin .ensures, s .pre .above), s .pre .walked)))
 
 certified-in-requires : tie.Need-certified-in-requires
 certified-in-requires c κs =
     let w = c .before .before .before in
     let b = w .before .before in
     let s = b .before .before .before .before .before in
-    (ready-on (s .pre .0) (w .walk-to .ensures .0), (s .pre .1 .1 .0, (w .walk-to .ensures .1 .1 .1, omega (arith, b .begin .ensures, w .walk-to .ensures .1 .1 .0))))
+    (ready-on (s .pre .ready) (w .walk-to .ensures .0), (s .pre .low, (w .walk-to .ensures .1 .1 .1, omega (arith, b .begin .ensures, w .walk-to .ensures .1 .1 .0))))
 
 cell-of-requires : tie.Need-cell-of-requires
 cell-of-requires c κs =
     let k = c .before .before .before .before .before .before .before .before in
     let s = k .before .before .before in
-    omega (arith, k .records-of .ensures, vertices-length first (s .args .table .now), s .pre .0 .sound .few)
+    omega (arith, k .records-of .ensures, vertices-length first (s .args .table .now), s .pre .ready .sound .few)
 
 returns : tie.Need-returns
 returns c =
@@ -40,7 +40,9 @@ returns c =
     let k = l .before in
     let s = k .before .before .before in
     let found = rw (l .leader-of .ensures) at (i .certified-in .ensures) in
-    through-told (s .pre .0 .sound .accepted) (s .args .round) (s .pre .1 .0) (s .args .a) (i .certified-in .result) found (k .records-of .result) (k .records-of .ensures ∙ sym (vertices-length first (s .args .table .now))) (c .cell-of .result) (c .cell-of .ensures) _ _ _ _ (w .walk-to .ensures .0) (w .walk-to .ensures .1 .0) (w .walk-to .ensures .1 .1 .1)
+    through-told (s .pre .ready .sound .accepted) (s .args .round) (s .pre .from-one) (s .args .a) (i .certified-in .result) found (k .records-of .result)
+    (k .records-of .ensures ∙ sym (vertices-length first (s .args .table .now))) (c .cell-of .result) (c .cell-of .ensures) _ _ _ _ (w .walk-to .ensures .0)
+    (w .walk-to .ensures .1 .0) (w .walk-to .ensures .1 .1 .1)
 
 pub through-anchor-spec : {M : Type 1} → statement M
 through-anchor-spec =

@@ -31,7 +31,8 @@ count-tagged-requires c κs =
     let s = l .before .before .before in
     let a = s .args in
     let t = a .table .now in
-    let m : startOf (vertices first t) (a .round) (l .loop .a) ≤ startOf (vertices first t) (a .round) (l .loop .a + 1) = start-mono (s .pre .sound .accepted) (a .round) (l .loop .a) (a .round) (l .loop .a + 1) (inr (refl, omega arith)) in
+    let m : startOf (vertices first t) (a .round) (l .loop .a) ≤ startOf (vertices first t) (a .round) (l .loop .a + 1) =
+    start-mono (s .pre .sound .accepted) (a .round) (l .loop .a) (a .round) (l .loop .a + 1) (inr (refl, omega arith)) in
     (omega (arith, m, c .before .begin .ensures, c .begin2 .ensures), omega (arith, s .pre .room, c .begin2 .ensures, start-bound (s .pre .sound .accepted) (a .round) (l .loop .a + 1)))
 
 loop-again : tie.Need-loop-again Inv-loop μ-loop

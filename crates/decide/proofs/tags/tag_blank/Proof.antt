@@ -31,7 +31,8 @@ loop-holds : tie.Need-loop-holds Inv-loop μ-loop
 loop-holds c =
     let s = c .before .before .before .before in
     let a = s .args in
-    let m : startOf (vertices first (a .table .now)) (a .round + 1) 0 ≤ startOf (vertices first (a .table .now)) (a .round + 2) 0 = start-mono (s .pre .0 .sound .accepted) (a .round + 1) 0 (a .round + 2) 0 (inl (omega arith)) in
+    let m : startOf (vertices first (a .table .now)) (a .round + 1) 0 ≤ startOf (vertices first (a .table .now)) (a .round + 2) 0 =
+    start-mono (s .pre .0 .sound .accepted) (a .round + 1) 0 (a .round + 2) 0 (inl (omega arith)) in
     (omega (arith, m, c .before .begin .ensures, c .begin2 .ensures), tagged-start (c .begin2 .result) (tag-of (a .table .now) (a .leader)) (a .work .now))
 
 entry-at-requires : tie.Need-entry-at-requires Inv-loop μ-loop
@@ -66,8 +67,10 @@ loop-again c =
     let b = l .before .before in
     let s = b .before .before .before in
     let a = s .args in
-    let low : l .loop .q < length (l .loop .work) = omega (arith, l .loop .inv .1 .retagged .same-length, s .pre .0 .room, b .begin .ensures, start-bound (s .pre .0 .sound .accepted) (a .round + 2) 0) in
-    let tag : c .with-tag .result % 128 ≡ tag-of (a .table .now) (a .leader) (l .loop .q) = c .with-tag .ensures .1 ∙ f .blank-tag .ensures ∙ ap (λ m. bit (eqb m 0)) (f .before .entry-at .ensures) in
+    let low : l .loop .q < length (l .loop .work) =
+    omega (arith, l .loop .inv .1 .retagged .same-length, s .pre .0 .room, b .begin .ensures, start-bound (s .pre .0 .sound .accepted) (a .round + 2) 0) in
+    let tag : c .with-tag .result % 128 ≡ tag-of (a .table .now) (a .leader) (l .loop .q) =
+    c .with-tag .ensures .1 ∙ f .blank-tag .ensures ∙ ap (λ m. bit (eqb m 0)) (f .before .entry-at .ensures) in
     (omega arith, tagged-next _ (tag-of (a .table .now) (a .leader)) (a .work .now) (l .loop .q) (l .loop .work) (c .with-tag .result) low (c .with-tag .ensures .0) tag (l .loop .inv .1))
 
 same-length : tie.Need-same-length Inv-loop μ-loop
@@ -79,7 +82,8 @@ returns c =
     let b = l .before .before in
     let s = b .before .before .before in
     let a = s .args in
-    tagged-end (s .pre .0 .sound .accepted) (a .round + 1) (a .round + 2) (l .before .begin2 .result) (tag-of (a .table .now) (a .leader)) (a .work .now) (l .loop .work) (l .loop .q) (omega arith) (l .before .begin2 .ensures) (omega (arith, b .begin .ensures)) (l .loop .inv .1)
+    tagged-end (s .pre .0 .sound .accepted) (a .round + 1) (a .round + 2) (l .before .begin2 .result) (tag-of (a .table .now) (a .leader)) (a .work .now)
+    (l .loop .work) (l .loop .q) (omega arith) (l .before .begin2 .ensures) (omega (arith, b .begin .ensures)) (l .loop .inv .1)
 
 pub tag-blank-spec : {M : Type 1} → statement M
 tag-blank-spec =

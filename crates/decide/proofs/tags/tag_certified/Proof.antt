@@ -32,7 +32,8 @@ loop-holds c =
     let s = c .before .before .before .before in
     let a = s .args in
     let t = a .table .now in
-    let m : startOf (vertices first t) (a .round + 2) 0 ≤ startOf (vertices first t) (a .round + 3) 0 = start-mono (s .pre .0 .sound .accepted) (a .round + 2) 0 (a .round + 3) 0 (inl (omega arith)) in
+    let m : startOf (vertices first t) (a .round + 2) 0 ≤ startOf (vertices first t) (a .round + 3) 0 =
+    start-mono (s .pre .0 .sound .accepted) (a .round + 2) 0 (a .round + 3) 0 (inl (omega arith)) in
     (omega arith, omega (arith, m, c .before .begin .ensures, c .begin2 .ensures), tagged-start (c .begin2 .result) (tag-of (a .n) t (a .round) (a .leader) (a .b) (a .e)) (a .work .now))
 
 certified-at-requires : tie.Need-certified-at-requires Inv-loop μ-loop
@@ -42,8 +43,10 @@ certified-at-requires c κs =
     let s = b .before .before .before in
     let a = s .args in
     let t = a .table .now in
-    let up : l .loop .w < startOf (vertices first t) (a .round + 2 + 1) 0 = (let e : a .round + 2 + 1 ≡ a .round + 3 = omega arith in rw e (omega (arith, b .begin .ensures))) in
-    let i : InRound (vertices first t) (a .round + 2) (l .loop .w) = in-round (s .pre .0 .sound .accepted) (a .round + 2) (l .loop .w) (omega (arith, l .before .begin2 .ensures)) up in
+    let up : l .loop .w < startOf (vertices first t) (a .round + 2 + 1) 0 =
+    (let e : a .round + 2 + 1 ≡ a .round + 3 = omega arith in rw e (omega (arith, b .begin .ensures))) in
+    let i : InRound (vertices first t) (a .round + 2) (l .loop .w) =
+    in-round (s .pre .0 .sound .accepted) (a .round + 2) (l .loop .w) (omega (arith, l .before .begin2 .ensures)) up in
     (s .pre .0 .sound, (i .within, i .round))
 
 slice-read-with-tag : tie.Need-slice-read-with-tag Inv-loop μ-loop
@@ -77,8 +80,10 @@ loop-again c =
     let a = s .args in
     let t = a .table .now in
     let tag-at = tag-of (a .n) t (a .round) (a .leader) (a .b) (a .e) in
-    let low : l .loop .w < length (l .loop .work) = omega (arith, l .loop .inv .2 .retagged .same-length, s .pre .0 .room, b .begin .ensures, start-bound (s .pre .0 .sound .accepted) (a .round + 3) 0) in
-    let tag : c .with-tag .result % 128 ≡ tag-at (l .loop .w) = c .with-tag .ensures .1 ∙ f .window-tag .ensures ∙ ap (λ x. windowTag x (a .b) (a .e)) (p .certified-at .ensures) in
+    let low : l .loop .w < length (l .loop .work) =
+    omega (arith, l .loop .inv .2 .retagged .same-length, s .pre .0 .room, b .begin .ensures, start-bound (s .pre .0 .sound .accepted) (a .round + 3) 0) in
+    let tag : c .with-tag .result % 128 ≡ tag-at (l .loop .w) =
+    c .with-tag .ensures .1 ∙ f .window-tag .ensures ∙ ap (λ x. windowTag x (a .b) (a .e)) (p .certified-at .ensures) in
     (omega arith, omega arith, tagged-next (l .before .begin2 .result) tag-at (a .work .now) (l .loop .w) (l .loop .work) (c .with-tag .result) low (c .with-tag .ensures .0) tag (l .loop .inv .2))
 
 same-length : tie.Need-same-length Inv-loop μ-loop
@@ -91,7 +96,8 @@ returns c =
     let s = b .before .before .before in
     let a = s .args in
     let t = a .table .now in
-    tagged-end (s .pre .0 .sound .accepted) (a .round + 2) (a .round + 3) (l .before .begin2 .result) (tag-of (a .n) t (a .round) (a .leader) (a .b) (a .e)) (a .work .now) (l .loop .work) (l .loop .w) (omega arith) (l .before .begin2 .ensures) (omega (arith, b .begin .ensures)) (l .loop .inv .2)
+    tagged-end (s .pre .0 .sound .accepted) (a .round + 2) (a .round + 3) (l .before .begin2 .result) (tag-of (a .n) t (a .round) (a .leader) (a .b) (a .e))
+    (a .work .now) (l .loop .work) (l .loop .w) (omega arith) (l .before .begin2 .ensures) (omega (arith, b .begin .ensures)) (l .loop .inv .2)
 
 pub tag-certified-spec : {M : Type 1} → statement M
 tag-certified-spec =

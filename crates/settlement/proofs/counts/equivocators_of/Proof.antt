@@ -14,7 +14,8 @@ returns : tie.Need-returns
 returns c =
     let r = c .before in
     let s = r .before .before in
-    c .count-ones .ensures ∙ ones-count (vertices first (s .args .table .now)) (s .args .n) (r .split-authors .result) (s .pre .accepted .few) (r .split-authors .ensures)
+    c .count-ones .ensures
+    ∙ ones-count (vertices first (s .args .table .now)) (s .args .n) (r .split-authors .result) (s .pre .accepted .few) (r .split-authors .ensures)
 
 pub equivocators-of-spec : {M : Type 1} → statement M
 equivocators-of-spec = tie.close (tie.spec (λ c κs. search needs) count-ones-requires returns)

@@ -8,7 +8,6 @@ use lib.ListN.{length, set}
 use Rattle.rules.specs.declared.Name.{Name}
 use Rattle.rules.specs.Record.{first, vertices}
 use Rattle.rules.proofs.Records.{vertices-length}
-use Rattle.rules.proofs.Accepted.{accepted}
 use Rattle.settlement.proofs.Counting.{splits, splits-start, splits-apart, splits-more, splits-end, named-at, author-few}
 use native.Mathlib.Omega.{arith}
 use borrow.Author.Needs.{needs}
@@ -37,7 +36,8 @@ array-write-split c =
     let s = l .before .before .before in
     let t = s .args .table .now in
     let within : l .loop .p < length (vertices first t) = omega (arith, l .before .records-of .ensures, vertices-length first t) in
-    author-few (s .pre .accepted) (l .loop .p) (x .name-of .result) within (named-at t (l .loop .p) _ (x .name-of .result) within (x .before .part .ensures .bytes) (x .name-of .ensures))
+    author-few (s .pre .accepted) (l .loop .p) (x .name-of .result) within
+    (named-at t (l .loop .p) _ (x .name-of .result) within (x .before .part .ensures .bytes) (x .name-of .ensures))
 
 loop-again : tie.Need-loop-again Inv-loop μ-loop
 loop-again c =

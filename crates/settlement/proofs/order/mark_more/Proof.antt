@@ -44,7 +44,7 @@ loop-again c =
     let i = l .loop .i in
     let A = s .pre .0 .sound .accepted in
     let M = l .loop .inv .1 in
-    let q : getD (P .places-of .result) i 0 ≡ getD (placesOf t p) i 0 = ap (λ x. getD x i 0) (P .places-of .ensures) in
+    let q : getD (P .places-of .result) i 0 ≡ getD (placesOf (s .args .n) t p) i 0 = ap (λ x. getD x i 0) (P .places-of .ensures) in
     let few : i < 31 = omega (arith, A .few) in
     ⊎-elim
     (λ x.
@@ -59,7 +59,8 @@ returns : tie.Need-returns Inv-loop μ-loop
 returns c =
     let l = c .before in
     let s = l .before .before .before .before in
-    more-end (s .pre .0 .sound .accepted) (s .args .p) (s .pre .1) (s .args .taken .now) (s .args .low) (l .loop .i) (l .loop .lowest) (l .loop .taken) (l .loop .inv .1) (omega arith)
+    more-end (s .pre .0 .sound .accepted) (s .args .p) (s .pre .1) (s .args .taken .now) (s .args .low) (l .loop .i) (l .loop .lowest) (l .loop .taken)
+    (l .loop .inv .1) (omega arith)
 
 pub mark-more-spec : {M : Type 1} → statement M
 mark-more-spec =

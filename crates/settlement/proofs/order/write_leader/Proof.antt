@@ -4,7 +4,6 @@ use Prim.Native.Nat.{_+_, _≤_, _<_}
 use native.Mathlib.Omega.{arith}
 use lib.ListN.{length}
 use Rattle.folds.specs.Folds.{countTo}
-use Rattle.rules.proofs.Accepted.{accepted}
 use Rattle.settlement.specs.Write.{due}
 use Rattle.decide.proofs.Marked.{by-references}
 use Rattle.settlement.proofs.Writing.{marked-length, led-room, led}
@@ -27,7 +26,7 @@ write-marked-requires c κs =
     let few : a < 4096 = omega (arith, R .sound .few, w) in
     let within : a < length m₁ = omega (arith, kept, w, R .room) in
     let places : s .args .count + countTo (due m₁) (a + 1) ≤ length (s .args .order .now) = omega (arith, room, s .pre .0 .places) in
-    (few, (within, (d .mark-down .ensures .lower, (d .mark-down .ensures .none-below, places))))
+    record { few = few; within = within; lower = d .mark-down .ensures .lower; none-below = d .mark-down .ensures .none-below; places = places }
 
 returns : tie.Need-returns
 returns c =
@@ -35,7 +34,9 @@ returns c =
     let d = x .before .before .before .before .before in
     let s = d .before .before .before .before .before in
     let R = s .pre .0 .ready in
-    led (R .sound .accepted) (by-references (R .sound .accepted)) (s .args .a) (s .pre .1 .0) (s .args .taken .now) (R .room) (d .mark-down .result) (d .mark-down .last .1 .1 .1 .0) (d .mark-down .ensures) (s .args .count) (x .write-marked .result) (s .args .order .now) (x .write-marked .last .1 .1 .0) (x .write-marked .last .1 .1 .1 .0) (x .write-marked .ensures .0) (x .write-marked .ensures .1 .0) (x .write-marked .ensures .1 .1)
+    led (R .sound .accepted) (by-references (R .sound .accepted)) (s .args .a) (s .pre .1 .0) (s .args .taken .now) (R .room) (d .mark-down .result)
+    (d .mark-down .last .1 .1 .1 .0) (d .mark-down .ensures) (s .args .count) (x .write-marked .result) (s .args .order .now) (x .write-marked .last .1 .1 .0)
+    (x .write-marked .last .1 .1 .1 .0) (x .write-marked .ensures .0) (x .write-marked .ensures .1 .0) (x .write-marked .ensures .1 .1)
 
 pub write-leader-spec : {M : Type 1} → statement M
 write-leader-spec =

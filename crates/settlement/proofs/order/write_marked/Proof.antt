@@ -19,27 +19,33 @@ abbrev μ-loop : tie.MeasureT-loop
 loop-holds : tie.Need-loop-holds Inv-loop μ-loop
 loop-holds c =
     let a = c .args in
-    (omega arith, put-start (a .taken .now) (a .order .now) (a .count) (a .low) (omega arith) (c .pre .1 .1 .1 .0))
+    (omega arith, put-start (a .taken .now) (a .order .now) (a .count) (a .low) (omega arith) (c .pre .none-below))
 
 mul-order : tie.Need-mul-order Inv-loop μ-loop
 mul-order c =
     let l = c .before .before .before in
     let a = l .before .args in
-    let room = put-room (a .taken .now) (a .order .now) (a .count) (l .loop .p) (l .loop .c) (l .loop .taken) (l .loop .order) (l .loop .inv .1) (a .a) (omega arith) (omega arith) (l .before .pre .1 .1 .1 .1) (c .if1 .taken) in
+    let room =
+    put-room (a .taken .now) (a .order .now) (a .count) (l .loop .p) (l .loop .c) (l .loop .taken) (l .loop .order) (l .loop .inv .1) (a .a) (omega arith)
+    (omega arith) (l .before .pre .places) (c .if1 .taken) in
     search needs
 
 slice-write-order : tie.Need-slice-write-order Inv-loop μ-loop
 slice-write-order c =
     let l = c .before .before .before in
     let a = l .before .args in
-    let room = put-room (a .taken .now) (a .order .now) (a .count) (l .loop .p) (l .loop .c) (l .loop .taken) (l .loop .order) (l .loop .inv .1) (a .a) (omega arith) (omega arith) (l .before .pre .1 .1 .1 .1) (c .if1 .taken) in
+    let room =
+    put-room (a .taken .now) (a .order .now) (a .count) (l .loop .p) (l .loop .c) (l .loop .taken) (l .loop .order) (l .loop .inv .1) (a .a) (omega arith)
+    (omega arith) (l .before .pre .places) (c .if1 .taken) in
     search needs
 
 add-c : tie.Need-add-c Inv-loop μ-loop
 add-c c =
     let l = c .before .before .before in
     let a = l .before .args in
-    let room = put-room (a .taken .now) (a .order .now) (a .count) (l .loop .p) (l .loop .c) (l .loop .taken) (l .loop .order) (l .loop .inv .1) (a .a) (omega arith) (omega arith) (l .before .pre .1 .1 .1 .1) (c .if1 .taken) in
+    let room =
+    put-room (a .taken .now) (a .order .now) (a .count) (l .loop .p) (l .loop .c) (l .loop .taken) (l .loop .order) (l .loop .inv .1) (a .a) (omega arith)
+    (omega arith) (l .before .pre .places) (c .if1 .taken) in
     search needs
 
 loop-again : tie.Need-loop-again Inv-loop μ-loop
@@ -49,7 +55,9 @@ loop-again c =
     let P = l .loop .inv .1 in
     ⊎-elim
     (λ x.
-    let room = put-room (a .taken .now) (a .order .now) (a .count) (l .loop .p) (l .loop .c) (l .loop .taken) (l .loop .order) P (a .a) (omega arith) (omega arith) (l .before .pre .1 .1 .1 .1) (x .0 .taken) in
+    let room =
+    put-room (a .taken .now) (a .order .now) (a .count) (l .loop .p) (l .loop .c) (l .loop .taken) (l .loop .order) P (a .a) (omega arith) (omega arith)
+    (l .before .pre .places) (x .0 .taken) in
     (omega arith, rw (x .1, x .2, x .3) (put-yes (a .taken .now) (a .order .now) (a .count) (l .loop .p) (l .loop .c) (l .loop .taken) (l .loop .order) P (omega arith) (omega arith) room (x .0 .taken))))
     (λ x. (omega arith, rw (x .1, x .2, x .3) (put-no (a .taken .now) (a .order .now) (a .count) (l .loop .p) (l .loop .c) (l .loop .taken) (l .loop .order) P (omega arith) (x .0 .left))))
     (c .if1 .came)

@@ -2,11 +2,10 @@
 -- in the places, the bytes and the count. The measure is the slots that are left.
 -- Assumes nothing.
 use Prim.Native.Nat.{_-_, _≤_, _<_}
-use mathlib.Core.Path.{sym, ap, _∙_}
+use mathlib.Core.Path.{_≡_, sym, ap, _∙_}
 use mathlib.Core.Logic.{⊎-elim}
 use lib.ListN.{length, getD}
 use Rattle.rules.specs.Record.{first, vertices}
-use Rattle.rules.proofs.Accepted.{accepted}
 use Rattle.folds.proofs.Over.{over-at}
 use Rattle.rules.specs.Decide.{boxSetting, highest}
 use Rattle.rules.proofs.Decide.{decisions-length}
@@ -20,7 +19,8 @@ use Rattle.settlement.proofs.order.write_order.Statement.{statement}
 use Rattle.settlement.proofs.order.write_order.Tie as tie
 
 abbrev Inv-loop : tie.InvT-loop
-Inv-loop n table top cells order₀ taken₀ count₀ s₀ order taken count s = (s ≤ top) × Upto (boxSetting n) n (vertices first table) order₀ taken₀ s count order taken
+Inv-loop n table top cells order₀ taken₀ count₀ s₀ order taken count s =
+    (s ≤ top) × Upto (boxSetting n) n (vertices first table) order₀ taken₀ s count order taken
 
 abbrev μ-loop : tie.MeasureT-loop
 μ-loop n table top cells order₀ taken₀ count₀ s₀ order taken count s = top - s
@@ -42,7 +42,8 @@ returns c =
     let g = l .before .before .before .before .before in
     let D = g .pre .0 in
     let low : l .loop .s < highest (vertices first (g .args .table .now)) = omega (arith, g .pre .1) in
-    upto-stop (D .cleared) (l .loop .inv .1) (slot-low _ _ low) (cell-undecided _ (sym (D .in-cells .held (l .loop .s) (omega arith) low) ∙ c .if1 .taken))
+    let empty : getD (g .args .cells .now) (l .loop .s) 0 ≡ 0 = omega (arith, c .if1 .taken) in
+    upto-stop (D .cleared) (l .loop .inv .1) (slot-low _ _ low) (cell-undecided _ (sym (D .in-cells .held (l .loop .s) (omega arith) low) ∙ empty))
 
 cast-write-leader : tie.Need-cast-write-leader Inv-loop μ-loop
 cast-write-leader c =
@@ -60,7 +61,8 @@ write-leader-requires c κs =
     let x = c .before .before in
     let holds = D .in-cells .held (l .loop .s) (omega arith) (omega (arith, g .pre .1)) in
     let led = cell-leader A (l .loop .s) _ holds (x .before .if1 .left) (x .if2 .taken) in
-    let fits : Fits first (g .args .n) (g .args .table .now) (l .loop .order) (l .loop .taken) = record { ready = ready-on R (U .kept); places = omega (arith, D .fits .places, U .kept-places) } in
+    let fits : Fits first (g .args .n) (g .args .table .now) (l .loop .order) (l .loop .taken) =
+    record { ready = ready-on R (U .kept); places = omega (arith, D .fits .places, U .kept-places) } in
     (fits, (led .1, (upto-told A (by-references A) (R .room) (D .fits .places) U, upto-count A (by-references A) (R .room) (D .fits .places) U)))
 
 loop-again : tie.Need-loop-again Inv-loop μ-loop
@@ -77,7 +79,9 @@ loop-again c =
     ⊎-elim
     (λ x.
     let led = cell-leader A j _ holds (c .before .if1 .left) (x .0 .taken) in
-    let next = upto-commit A (by-references A) (R .room) (D .fits .places) U (getD (g .args .cells .now) j 0 - 2) (led .1) (slot-low _ _ low) (led .0) (x .3 .result) (x .3 .last .1 .1 .1 .0) (x .3 .last .1 .1 .1 .1 .0) (x .3 .ensures) in
+    let next =
+    upto-commit A (by-references A) (R .room) (D .fits .places) U (getD (g .args .cells .now) j 0 - 2) (led .1) (slot-low _ _ low) (led .0) (x .3 .result)
+    (x .3 .last .1 .1 .1 .0) (x .3 .last .1 .1 .1 .1 .0) (x .3 .ensures) in
     (omega arith, rw (x .8, x .9, x .10) next))
     (λ x. (omega arith, rw (x .1, x .2, x .3) (upto-skip A (by-references A) (R .room) (D .fits .places) U (slot-low _ _ low) (cell-skipped _ (sym holds ∙ x .0 .left)))))
     (c .if2 .came)

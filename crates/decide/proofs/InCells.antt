@@ -27,7 +27,7 @@ use Rattle.rules.proofs.Decide.{lowest-first, decisions-length, decisions-at}
 use Rattle.decide.specs.Work.{Retagged}
 use Rattle.decide.specs.Ready.{lastRound}
 use Rattle.decide.specs.Sweep.{Swept}
-use Rattle.decide.specs.Cells.{firstIn, Walked, InHand, Told}
+use Rattle.decide.specs.Cells.{firstIn, Walked, InHand, InCell}
 use Rattle.decide.proofs.Passed.{ready-on}
 use Rattle.decide.proofs.Marked.{by-references}
 use Rattle.decide.proofs.Sweeps.{swept-retagged}
@@ -63,7 +63,7 @@ module _ {n : ℕ} {vs : List Vertex} (A : Accepted n vs) (round : ℕ) (pos : 0
   pub through-told : (a b : ℕ) → b ≡ firstIn vs round (leader n round) (certifiedIn n vs (history references vs a)) → (k : ℕ) → k ≡ length vs → (c : ℕ)
       → c ≡ cond (ltb b k) (2 + b) 1
       → (old new : List ℕ) (a′ p′ : ℕ) → length new ≡ length old → a′ ≡ a → Swept references vs a p′ new
-      → Told references vs (throughAnchor (boxSetting n) n vs (round - 1) a) old c a′ p′ new
+      → InCell references vs (throughAnchor (boxSetting n) n vs (round - 1) a) old c a′ p′ new
   through-told a b is k size c e old new a′ p′ len same S = record {
     same-length = len;
     in-cell = e ∙ ap (λ j. cond (ltb b j) (2 + b) 1) size ∙ sym (through-cell a b is);
@@ -199,7 +199,7 @@ module _ {n : ℕ} {t : List ℕ} {round : ℕ} {cells : List ℕ} {a p : ℕ} {
 
     -- committed directly with the vertex at b
     pub told-commit : (new : List ℕ) → Retagged work new → b < k → (c : ℕ) → c ≡ cond (ltb b k) (2 + b) 0
-        → Told references (vertices first t) decided work c a p new
+        → InCell references (vertices first t) decided work c a p new
     told-commit new r l c e = record {
       same-length = r .same-length;
       in-cell = e ∙ ap (λ j. cond (ltb b j) (2 + b) 0) all-records ∙ sym (direct-cell passed round (I .from-one) (I .low) b is (omega (arith, l, all-records)));
@@ -211,13 +211,13 @@ module _ {n : ℕ} {t : List ℕ} {round : ℕ} {cells : List ℕ} {a p : ℕ} {
       past = omega (arith, none, all-records)
 
       -- skipped directly
-      pub told-skip : directSkip n (vertices first t) round (leader n round) ≡ true → Told references (vertices first t) decided work 1 a p new
+      pub told-skip : directSkip n (vertices first t) round (leader n round) ≡ true → InCell references (vertices first t) decided work 1 a p new
       told-skip e = record { same-length = r .same-length; in-cell = sym (skip-cell passed round (I .from-one) (I .low) b is past e); walked = in-hand-on new r .walked }
 
       -- by the indirect rule
       pub told-on : directSkip n (vertices first t) round (leader n round) ≡ false → (c a′ p′ : ℕ) (last : List ℕ)
-          → Told references (vertices first t) (indirect (boxSetting n) n (vertices first t) (round - 1) (anchor (drop (round + 2) (decisions (boxSetting n) n (vertices first t))))) new c a′ p′ last
-          → Told references (vertices first t) decided work c a′ p′ last
+          → InCell references (vertices first t) (indirect (boxSetting n) n (vertices first t) (round - 1) (anchor (drop (round + 2) (decisions (boxSetting n) n (vertices first t))))) new c a′ p′ last
+          → InCell references (vertices first t) decided work c a′ p′ last
       told-on e c a′ p′ last T = record {
         same-length = T .same-length ∙ r .same-length;
         in-cell = T .in-cell ∙ sym (indirect-cell passed round (I .from-one) (I .low) b is past e);

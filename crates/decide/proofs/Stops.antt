@@ -25,7 +25,7 @@ use Rattle.rules.proofs.Decide.{Anchored, no-anchor, anchored, anchored-is, dec
 use Rattle.rules.proofs.Highest.{one-later}
 use Rattle.decide.specs.Range.{startOf}
 use Rattle.decide.specs.Ready.{DecidedFrom}
-use Rattle.decide.specs.Cells.{stopAt, InHand, Told}
+use Rattle.decide.specs.Cells.{stopAt, InHand, InCell}
 use Rattle.decide.proofs.Ranges.{Under, start-under}
 
 -- ---- where the indirect search stops
@@ -171,13 +171,13 @@ module _ {n : ℕ} {t : List ℕ} {round : ℕ} {cells : List ℕ} {a p : ℕ} {
   at-top : k ≡ 1 + stopAt cells (round + 2) (highest (vertices first t))
   at-top = rw is-top at stops
 
-  left-open : last ≡ undecided → Told references (vertices first t) (indirect (boxSetting n) n (vertices first t) (round - 1) last) work 0 a p work
+  left-open : last ≡ undecided → InCell references (vertices first t) (indirect (boxSetting n) n (vertices first t) (round - 1) last) work 0 a p work
   left-open e = record { same-length = refl; in-cell = indirect-open n (vertices first t) (round - 1) _ e; walked = I .walked }
 
-  pub told-past : up-to < k → Told references (vertices first t) (indirect (boxSetting n) n (vertices first t) (round - 1) last) work 0 a p work
+  pub told-past : up-to < k → InCell references (vertices first t) (indirect (boxSetting n) n (vertices first t) (round - 1) last) work 0 a p work
   told-past h = left-open (anchor-past passed round (I .from-one) cells (I .above) k at-top (omega (arith, h, is-top)))
 
-  pub told-open : getD cells (k - 1) 0 ≡ 0 → Told references (vertices first t) (indirect (boxSetting n) n (vertices first t) (round - 1) last) work 0 a p work
+  pub told-open : getD cells (k - 1) 0 ≡ 0 → InCell references (vertices first t) (indirect (boxSetting n) n (vertices first t) (round - 1) last) work 0 a p work
   told-open z = left-open (anchor-open passed round (I .from-one) cells (I .above) k at-top z)
 
   module _ (h : k ≤ up-to) (f : getD cells (k - 1) 0 ≢ 0) where
@@ -185,8 +185,8 @@ module _ {n : ℕ} {t : List ℕ} {round : ℕ} {cells : List ℕ} {a p : ℕ} {
     anchor-cell = anchor-found passed round (I .from-one) cells (I .above) k at-top (omega (arith, h, is-top)) f
 
     pub told-through : (c a′ p′ : ℕ) (new : List ℕ)
-        → Told references (vertices first t) (throughAnchor (boxSetting n) n (vertices first t) (round - 1) (getD cells (k - 1) 0 - 2)) work c a′ p′ new
-        → Told references (vertices first t) (indirect (boxSetting n) n (vertices first t) (round - 1) last) work c a′ p′ new
+        → InCell references (vertices first t) (throughAnchor (boxSetting n) n (vertices first t) (round - 1) (getD cells (k - 1) 0 - 2)) work c a′ p′ new
+        → InCell references (vertices first t) (indirect (boxSetting n) n (vertices first t) (round - 1) last) work c a′ p′ new
     told-through c a′ p′ new T = record {
       same-length = T .same-length;
       in-cell = T .in-cell ∙ indirect-through n (vertices first t) (round - 1) _ _ (anchor-cell .1 .found);

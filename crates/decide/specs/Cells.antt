@@ -46,7 +46,7 @@ pub record AtAnchor (step : StepRule) (E : Edition) (n : ℕ) (t : List ℕ) (ro
   pub walked : Walked step (vertices E t) a p work
 
 -- A round that is decided: its cell is that of the decision d, and the work bytes hold the walk that is in hand then.
-pub record Told (step : StepRule) (vs : List Vertex) (d : Decision ℕ) (old : List ℕ) (c a p : ℕ) (new : List ℕ) : Type 0 where
+pub record InCell (step : StepRule) (vs : List Vertex) (d : Decision ℕ) (old : List ℕ) (c a p : ℕ) (new : List ℕ) : Type 0 where
   pub same-length : length new ≡ length old
   pub in-cell : c ≡ cell d
   pub walked : Walked step vs a p new

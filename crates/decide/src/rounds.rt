@@ -12,7 +12,7 @@ ghost use Rattle.rules.specs.Support.{references};
 ghost use Rattle.rules.specs.Decide.{boxSetting, highest, anchor, indirect, decisions, decisionAt, throughAnchor};
 ghost use Rattle.rules.specs.Settlement.{writtenOver};
 ghost use Rattle.decide.specs.Ready.{verticesOf, lastRound, Ready};
-ghost use Rattle.decide.specs.Cells.{stopAt, InHand, AtAnchor, Told};
+ghost use Rattle.decide.specs.Cells.{stopAt, InHand, AtAnchor, InCell};
 use crate::direct::direct_commit;
 use crate::direct::direct_skip;
 use crate::history::Walk;
@@ -70,7 +70,7 @@ fn cell_of(p: usize, k: usize, other: u32) -> u32
 // The round through its anchor, the vertex at a.
 fn through_anchor(n: u8, table: &[u8], round: u32, a: usize, walk: Walk, work: &mut [u8]) -> Round
     requires { ⌜ AtAnchor references first n (now table) round a (walk .anchor) (walk .done) (now work) ⌝ }
-    ensures { λ r. ⌜ Told references (verticesOf (now (table .entry)))
+    ensures { λ r. ⌜ InCell references (verticesOf (now (table .entry)))
         (throughAnchor (boxSetting n) n (verticesOf (now (table .entry))) (round - 1) a)
         (now (work .entry)) (r .cell) (r .walk .anchor) (r .walk .done) (now (work .exit)) ⌝ }
 {
@@ -88,7 +88,7 @@ fn through_anchor(n: u8, table: &[u8], round: u32, a: usize, walk: Walk, work: &
 // One round by the indirect rule.
 fn by_anchor(n: u8, table: &[u8], round: u32, cells: &[u32], walk: Walk, work: &mut [u8]) -> Round
     requires { ⌜ InHand (boxSetting n) first n (now table) round (now cells) (walk .anchor) (walk .done) (now work) ⌝ }
-    ensures { λ r. ⌜ Told references (verticesOf (now (table .entry)))
+    ensures { λ r. ⌜ InCell references (verticesOf (now (table .entry)))
         (indirect (boxSetting n) n (verticesOf (now (table .entry))) (round - 1) (anchor (drop (round + 2) (decisions (boxSetting n) n (verticesOf (now (table .entry)))))))
         (now (work .entry)) (r .cell) (r .walk .anchor) (r .walk .done) (now (work .exit)) ⌝ }
 {
@@ -107,7 +107,7 @@ fn by_anchor(n: u8, table: &[u8], round: u32, cells: &[u32], walk: Walk, work: &
 // One round: by the direct rules, and else by the indirect one.
 fn decide_one(n: u8, table: &[u8], round: u32, cells: &[u32], walk: Walk, work: &mut [u8]) -> Round
     requires { ⌜ InHand (boxSetting n) first n (now table) round (now cells) (walk .anchor) (walk .done) (now work) ⌝ }
-    ensures { λ r. ⌜ Told references (verticesOf (now (table .entry)))
+    ensures { λ r. ⌜ InCell references (verticesOf (now (table .entry)))
         (decisionAt (decisions (boxSetting n) n (verticesOf (now (table .entry)))) (round - 1)) (now (work .entry)) (r .cell) (r .walk .anchor)
         (r .walk .done) (now (work .exit)) ⌝ }
 {

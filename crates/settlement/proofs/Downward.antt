@@ -19,7 +19,7 @@ use Rattle.rules.specs.Record.{at, nameOf}
 use Rattle.rules.specs.History.{StepRule, history}
 use Rattle.rules.proofs.Accepted.{Accepted}
 use Rattle.decide.specs.Sweep.{markedFrom}
-use Rattle.settlement.specs.Write.{written, moreAt, byteOf, dueFrom, Told, MarkedOne, MarkedMore, MarkedDown}
+use Rattle.settlement.specs.Write.{written, moreAt, byteOf, dueFrom, WrittenSoFar, MarkedOne, MarkedMore, MarkedDown}
 use Rattle.folds.proofs.Over.{or-last, over-at, over-length, over-same, over-over, over-none}
 use Rattle.decide.proofs.Marked.{Walks, marked-history, marked-start, marked-next, marked-same}
 
@@ -58,7 +58,7 @@ pub record Begun (step : StepRule) (vs : List Vertex) (a : ℕ) (m : List ℕ) :
   pub leader : (getD m a 0 ≡ 1) ⊎ (getD m a 0 ≡ 2)
   pub closed : (p q : ℕ) → p < length vs → q < length vs → getD m p 0 ≡ 1 → step (at vs p) (nameOf (at vs q)) ≡ true → getD m q 0 ≡ 1
 
-module _ {step : StepRule} {vs : List Vertex} (a : ℕ) (l : a < length vs) (m : List ℕ) (room : length vs ≤ length m) (T : Told step vs m) (low : ℕ) (m′ : List ℕ) (one : MarkedOne a a m low m′) where
+module _ {step : StepRule} {vs : List Vertex} (a : ℕ) (l : a < length vs) (m : List ℕ) (room : length vs ≤ length m) (T : WrittenSoFar step vs m) (low : ℕ) (m′ : List ℕ) (one : MarkedOne a a m low m′) where
   -- the leader alone may have changed
   same-other : (q : ℕ) → q ≢ a → getD m′ q 0 ≡ getD m q 0
   same-other q d = ap (λ b. getD b q 0) (one .bytes) ∙ getD-set-other m a q _ 0 d

@@ -27,7 +27,7 @@ use Rattle.rules.specs.Settlement.{writtenOver, takenBytes}
 use Rattle.rules.proofs.Accepted.{Accepted}
 use Rattle.rules.proofs.Decide.{decisions-length, leads}
 use Rattle.rules.proofs.Highest.{one-later}
-use Rattle.settlement.specs.Write.{placesOver, written, Told, fresh, Led, Ordered}
+use Rattle.settlement.specs.Write.{placesOver, written, WrittenSoFar, fresh, Led, Ordered}
 use Rattle.decide.proofs.Marked.{Walks, history-size, history-past, history-low, history-step}
 use Rattle.folds.proofs.Over.{over-at, over-length, over-same, over-over, over-none}
 use Rattle.settlement.proofs.Places.{places-over}
@@ -170,7 +170,7 @@ module _ {C : Setting} {n : ℕ} {vs : List Vertex} {o m : List ℕ} {s count : 
   written-is q lq = ap (λ x. eqb x 1) (byte q lq) ∙ bit-one (member q w)
 
   -- the bytes tell it
-  pub upto-told : Told (C .step) vs m′
+  pub upto-told : WrittenSoFar (C .step) vs m′
   upto-told = record {
     low = λ q lq. omega (arith, byte q lq, bit-low (member q w));
     closed = λ p q lp lq e r. eqb-true _ _ (written-is q lq ∙ U .closed p q lp lq (sym (written-is p lp) ∙ eq-eqb _ _ e) r);

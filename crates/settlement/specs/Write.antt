@@ -50,7 +50,7 @@ abbrev pub dueFrom : StepRule → List Vertex → (a p : ℕ) → List ℕ → �
 dueFrom step vs a p m q = byteOf (written m q) (markedFrom step vs a p q)
 
 -- Each byte tells whether its vertex is written, and nothing is due. What is written has with a vertex all that it steps to.
-pub record Told (step : StepRule) (vs : List Vertex) (m : List ℕ) : Type 0 where
+pub record WrittenSoFar (step : StepRule) (vs : List Vertex) (m : List ℕ) : Type 0 where
   pub low : (q : ℕ) → q < length vs → getD m q 0 ≤ 1
   pub closed : (p q : ℕ) → p < length vs → q < length vs → getD m p 0 ≡ 1 → step (at vs p) (nameOf (at vs q)) ≡ true → getD m q 0 ≡ 1
 

@@ -9,7 +9,7 @@ ghost use Rattle.rules.specs.Support.{references};
 ghost use Rattle.rules.specs.Decide.{boxSetting, highest};
 ghost use Rattle.folds.specs.Folds.{bytesOver};
 ghost use Rattle.decide.specs.Ready.{verticesOf, recordsOf, Ready};
-ghost use Rattle.settlement.specs.Write.{DueTo, Fits, Decided, placesOver, written, due, Told, MarkedOne, MarkedMore, MarkedDown, Led, Ordered};
+ghost use Rattle.settlement.specs.Write.{DueTo, Fits, Decided, placesOver, written, due, WrittenSoFar, MarkedOne, MarkedMore, MarkedDown, Led, Ordered};
 use references::places_of;
 
 // A position is marked unless it is written or marked already. Answers it if it is marked here and lower than `low`, and else `low`.
@@ -49,7 +49,7 @@ fn mark_more(n: u8, table: &[u8], p: usize, low: usize, taken: &mut [u8]) -> usi
 fn mark_down(n: u8, table: &[u8], a: usize, taken: &mut [u8]) -> usize
     requires { ⌜ Ready first n (now table) (now taken) ⌝ }
     requires { ⌜ a < recordsOf (now table) ⌝ }
-    requires { ⌜ Told references (verticesOf (now table)) (now taken) ⌝ }
+    requires { ⌜ WrittenSoFar references (verticesOf (now table)) (now taken) ⌝ }
     ensures { λ r. ⌜ MarkedDown references (verticesOf (now (table .entry))) a (now (taken .entry)) r (now (taken .exit)) ⌝ }
 {
     let mut low = mark_one(a, a, taken);
@@ -94,7 +94,7 @@ fn write_leader(
 ) -> usize
     requires { ⌜ Fits first n (now table) (now order) (now taken) ⌝ }
     requires { ⌜ a < recordsOf (now table) ⌝ }
-    requires { ⌜ Told references (verticesOf (now table)) (now taken) ⌝ }
+    requires { ⌜ WrittenSoFar references (verticesOf (now table)) (now taken) ⌝ }
     requires { ⌜ count ≡ countTo (written (now taken)) (recordsOf (now table)) ⌝ }
     ensures { λ r. ⌜ Led references (verticesOf (now (table .entry))) a count (now (order .entry)) (now (taken .entry)) r (now (order .exit))
         (now (taken .exit)) ⌝ }

@@ -24,7 +24,7 @@ use Rattle.rules.specs.Settlement.{Buffers, writtenOver, tooShort, lentCheck}
 use Rattle.rules.proofs.Refusals.{then-passed, when-yes, when-no, hands-on}
 use Rattle.rules.proofs.Records.{vertices-length}
 use Rattle.decide.specs.Ready.{Ready}
-use Rattle.decide.proofs.Passed.{sound}
+use Rattle.decide.proofs.Sound.{sound}
 use Rattle.decide.specs.Promise.{DecidesTo, cellsAfter, takenAfter}
 
 module _ (n : ℕ) (t : List ℕ) (b : Buffers) where

@@ -28,7 +28,7 @@ use Rattle.decide.specs.Work.{Retagged}
 use Rattle.decide.specs.Ready.{lastRound}
 use Rattle.decide.specs.Sweep.{Swept}
 use Rattle.decide.specs.Cells.{firstIn, Walked, InHand, InCell}
-use Rattle.decide.proofs.Passed.{ready-on}
+use Rattle.decide.proofs.Sound.{ready-on}
 use Rattle.decide.proofs.Marked.{by-references}
 use Rattle.decide.proofs.Sweeps.{swept-retagged}
 

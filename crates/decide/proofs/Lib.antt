@@ -1,4 +1,4 @@
-pub mod Passed
+pub mod Sound
 pub mod Ranges
 pub mod Certified
 pub mod Tagging

@@ -31,7 +31,7 @@ use Rattle.rules.proofs.Refusals.{then-both, when-passed}
 use Rattle.rules.proofs.Records.{vertices-length}
 use Rattle.rules.proofs.Decide.{decisions-length}
 use Rattle.folds.proofs.Over.{over-over, over-length}
-use Rattle.decide.proofs.Passed.{sound}
+use Rattle.decide.proofs.Sound.{sound}
 use Rattle.settlement.specs.Write.{Decided}
 use Rattle.decide.specs.Promise.{DecidesTo, cellsAfter, takenAfter}
 use Rattle.settlement.specs.Promise.{SettlesTo}

@@ -13,7 +13,7 @@ use Rattle.decide.proofs.Ranges.{start-bound, start-mono}
 use Rattle.decide.proofs.Tagging.{retagged-same, retagged-on}
 use Rattle.decide.proofs.Commits.{FailTo, fail-on, from-fail, from-pass, first-in-found, first-in-none}
 use native.Mathlib.Omega.{arith}
-use Rattle.decide.proofs.Passed.{ready-on}
+use Rattle.decide.proofs.Sound.{ready-on}
 use borrow.Author.Needs.{needs}
 use Rattle.decide.proofs.direct.direct_commit.Statement.{statement}
 use Rattle.decide.proofs.direct.direct_commit.Tie as tie

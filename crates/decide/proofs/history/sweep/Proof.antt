@@ -8,7 +8,7 @@ use Rattle.decide.specs.Sweep.{Swept}
 use Rattle.decide.proofs.Marked.{by-references}
 use Rattle.decide.proofs.Sweeps.{swept-same, swept-next}
 use native.Mathlib.Omega.{arith}
-use Rattle.decide.proofs.Passed.{ready-on}
+use Rattle.decide.proofs.Sound.{ready-on}
 use Rattle.rules.specs.Support.{references}
 use borrow.Author.Needs.{needs}
 use Rattle.decide.proofs.history.sweep.Statement.{statement}

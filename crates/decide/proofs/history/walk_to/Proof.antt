@@ -2,7 +2,7 @@
 use mathlib.Core.Path.{refl, _∙_}
 use native.Mathlib.Omega.{arith}
 use native.Mathlib.Nat.{le-refl}
-use Rattle.decide.proofs.Passed.{ready-on}
+use Rattle.decide.proofs.Sound.{ready-on}
 use borrow.Author.Needs.{needs}
 use Rattle.decide.proofs.history.walk_to.Statement.{statement}
 use Rattle.decide.proofs.history.walk_to.Tie as tie

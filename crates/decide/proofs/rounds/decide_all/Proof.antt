@@ -8,7 +8,7 @@ use Rattle.rules.specs.Record.{first, vertices}
 use Rattle.rules.specs.Decide.{highest}
 use Rattle.rules.proofs.Records.{vertices-length}
 use Rattle.decide.specs.Cells.{Walked}
-use Rattle.decide.proofs.Passed.{ready-on}
+use Rattle.decide.proofs.Sound.{ready-on}
 use Rattle.decide.proofs.InCells.{CellsFrom, cells-start, cells-next, cells-end}
 use native.Mathlib.Omega.{arith}
 use Rattle.rules.specs.Support.{references}

@@ -4,7 +4,7 @@ use mathlib.Core.Path.{sym, _∙_}
 use native.Mathlib.Omega.{arith}
 use Rattle.rules.specs.Record.{first}
 use Rattle.rules.proofs.Records.{vertices-length}
-use Rattle.decide.proofs.Passed.{ready-on}
+use Rattle.decide.proofs.Sound.{ready-on}
 use Rattle.decide.proofs.InCells.{through-told}
 use borrow.Author.Needs.{needs}
 use Rattle.decide.proofs.rounds.through_anchor.Statement.{statement}

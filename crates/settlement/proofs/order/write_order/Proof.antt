@@ -9,7 +9,7 @@ use Rattle.rules.specs.Record.{first, vertices}
 use Rattle.folds.proofs.Over.{over-at}
 use Rattle.rules.specs.Decide.{boxSetting, highest}
 use Rattle.rules.proofs.Decide.{decisions-length}
-use Rattle.decide.proofs.Passed.{ready-on}
+use Rattle.decide.proofs.Sound.{ready-on}
 use Rattle.decide.proofs.Marked.{by-references}
 use Rattle.settlement.specs.Write.{Fits}
 use Rattle.settlement.proofs.Ordered.{Upto, upto-start, upto-told, upto-count, upto-skip, upto-commit, upto-stop, upto-end, slot-low, cell-undecided, cell-skipped, cell-leader}

@@ -8,11 +8,11 @@ ghost use Rattle.rules.specs.Support.{directCommit, directSkip};
 ghost use Rattle.decide.specs.Work.{Retagged, Window};
 ghost use Rattle.decide.specs.Cells.{firstIn};
 use crate::range::begin;
-use crate::range::smaller;
 use crate::tags::authors_tagged;
 use crate::tags::tag_blank;
 use crate::tags::tag_certified;
 use tally::quorum_of;
+use tally::smaller;
 
 // The first vertex from b up to e that a quorum certifies, or e. The tags say who certifies which.
 fn commit_in(n: u8, table: &[u8], round: u32, leader: u8, b: usize, e: usize, work: &[u8]) -> usize

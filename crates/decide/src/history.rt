@@ -1,6 +1,7 @@
 // The history of an anchor, marked in the upper part of the work bytes from the anchor downward. References are to earlier records, so
 // one pass finds all; it stops where the round in hand needs no more, and goes on from there for the next.
 ghost use mathlib.Core.Path.{_≡_};
+use tally::smaller;
 ghost use Prim.Native.Nat.{ℕ, suc, _+_, _%_, _≤_, _<_};
 ghost use lib.ListN.{length};
 ghost use Rattle.rules.specs.Record.{first};
@@ -14,7 +15,6 @@ ghost use Rattle.decide.specs.Sweep.{Swept, Handed};
 ghost use Rattle.decide.specs.Cells.{firstIn, Walked};
 use crate::certify::certified_at;
 use crate::range::begin;
-use crate::range::smaller;
 use references::places_of;
 
 // How far the history of an anchor is marked: from `done` on, all are looked at. A position past the records is no anchor.

@@ -1,6 +1,6 @@
 // Where the records of a round, and of an author in it, begin. Names rise, so they stand side by side.
 ghost use mathlib.Core.Path.{_≡_};
-ghost use Prim.Native.Nat.{_<_, min};
+ghost use Prim.Native.Nat.{_<_};
 ghost use Rattle.rules.specs.Record.{first, at, entry};
 ghost use Rattle.decide.specs.Ready.{verticesOf, recordsOf, Sound};
 ghost use Rattle.decide.specs.Range.{startOf};
@@ -28,11 +28,5 @@ pub(crate) fn entry_at(table: &[u8], p: usize, i: usize) -> u32
     requires { ⌜ p < recordsOf (now table) ⌝ }
     ensures { λ r. ⌜ r ≡ entry (at (verticesOf (now (table .entry))) p) i ⌝ }
 {
-    record::entry_of(record::part(table, p), i)
-}
-
-pub(crate) fn smaller(a: usize, b: usize) -> usize
-    ensures { λ r. ⌜ r ≡ min a b ⌝ }
-{
-    if a < b { a } else { b }
+    record::entry_at(table, p, i)
 }

@@ -24,6 +24,10 @@ use Rattle.record.proofs.name_of.Kinds as name-of-kinds
 use Rattle.record.proofs.name_of.Reads as name-of
 use Rattle.record.proofs.entry_of.Kinds as entry-of-kinds
 use Rattle.record.proofs.entry_of.Reads as entry-of
+use Rattle.record.proofs.name_at.Kinds as name-at-kinds
+use Rattle.record.proofs.name_at.Reads as name-at
+use Rattle.record.proofs.entry_at.Kinds as entry-at-kinds
+use Rattle.record.proofs.entry_at.Reads as entry-at
 
 pub records-of-unique : Only 1 records-of-kinds.ps records-of-kinds.r (λ κs x e y f. x ≡ y) records-of.Post
 records-of-unique κs a x y e f p q = p ∙ sym q
@@ -54,3 +58,9 @@ name-of-unique κs a x y e f p q = p ∙ sym q
 
 pub entry-of-unique : Only 1 entry-of-kinds.ps entry-of-kinds.r (λ κs x e y f. x ≡ y) entry-of.Post
 entry-of-unique κs a x y e f p q = p ∙ sym q
+
+pub name-at-unique : Only 1 name-at-kinds.ps name-at-kinds.r (λ κs x e y f. x ≡ y) name-at.Post
+name-at-unique κs a x y e f p q = p ∙ sym q
+
+pub entry-at-unique : Only 1 entry-at-kinds.ps entry-at-kinds.r (λ κs x e y f. x ≡ y) entry-at.Post
+entry-at-unique κs a x y e f p q = p ∙ sym q

@@ -37,7 +37,7 @@ fn name_at(table: &[u8], p: usize) -> Name
     ensures { λ r. ⌜ r ≡ nameOf (at (vertices first (now (table .entry))) p) ⌝ }
 {
     if p < record::records_of(table) {
-        return search::name_at(table, p);
+        return record::name_at(table, p);
     }
     Name {
         round: 0,

@@ -7,8 +7,6 @@ use Rattle.search.proofs.below.Kinds as below-kinds
 use Rattle.search.proofs.below.Reads as below
 use Rattle.search.proofs.same.Kinds as same-kinds
 use Rattle.search.proofs.same.Reads as same
-use Rattle.search.proofs.name_at.Kinds as name-at-kinds
-use Rattle.search.proofs.name_at.Reads as name-at
 use Rattle.search.proofs.raised.Kinds as raised-kinds
 use Rattle.search.proofs.raised.Reads as raised
 use Rattle.search.proofs.lowered.Kinds as lowered-kinds
@@ -25,9 +23,6 @@ below-unique κs a x y e f p q = p ∙ sym q
 
 pub same-unique : Only 0 same-kinds.ps same-kinds.r (λ κs x e y f. x ≡ y) same.Post
 same-unique κs a x y e f p q = p ∙ sym q
-
-pub name-at-unique : Only 1 name-at-kinds.ps name-at-kinds.r (λ κs x e y f. x ≡ y) name-at.Post
-name-at-unique κs a x y e f p q = p ∙ sym q
 
 pub raised-unique : Only 0 raised-kinds.ps raised-kinds.r (λ κs x e y f. x ≡ y) raised.Post
 raised-unique κs a x y e f p q = p ∙ sym q

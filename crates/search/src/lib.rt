@@ -7,7 +7,7 @@ ghost use Rattle.rules.specs.Record.{first, records, vertices, sameName};
 ghost use Rattle.rules.specs.Record.{below as isBelow};
 ghost use Rattle.rules.specs.Decide.{highest};
 ghost use Rattle.search.specs.Search.{nameAt, placeOf, findBelow};
-use record::part;
+use record::name_at;
 use record::records_of;
 use rules::Name;
 use tally::smaller;
@@ -37,13 +37,6 @@ pub fn same(x: Name, y: Name) -> bool
         return false;
     }
     x.mark == y.mark
-}
-
-// The name of the record at p.
-pub fn name_at(table: &[u8], p: usize) -> Name
-    ensures { λ r. ⌜ r ≡ nameAt (now (table .entry)) p ⌝ }
-{
-    record::name_of(part(table, p))
 }
 
 // ---- the search by halves

@@ -16,11 +16,12 @@ use Rattle.folds.proofs.Laws.{first-by, any-none, any-witness, any-intro, count
 use Rattle.folds.proofs.Lists.{getD-tabulate, tabulate-same}
 use Rattle.rules.specs.declared.Name.{Name}
 use Rattle.rules.specs.declared.Vertex.{Vertex}
-use Rattle.rules.specs.Record.{first, recordAt, decode, vertices, at, nameOf, below}
+use Rattle.rules.specs.Record.{first, vertices, at, nameOf, below}
 use Rattle.rules.specs.Settlement.{equivocates, equivocators}
 use Rattle.rules.proofs.Names.{Below, is-below, below-round, below-mark}
 use Rattle.rules.proofs.Records.{vertices-length}
 use Rattle.rules.proofs.Accepted.{Accepted, author-low, rising}
+use Rattle.search.specs.Search.{nameAt}
 use Rattle.search.proofs.Names.{name-at}
 use Rattle.folds.proofs.Over.{or-last, set-tabulate}
 use Rattle.settlement.specs.Twins.{side}
@@ -116,10 +117,8 @@ module _ {n : ℕ} {vs : List Vertex} (A : Accepted n vs) where
 
 -- ---- the names of two neighbours, as they are read
 
--- the name in a record's part
-pub named-at : (t : List ℕ) (q : ℕ) (b : List ℕ) (z : Name) → q < length (vertices first t) → b ≡ recordAt first t q → z ≡ nameOf (decode first b)
-    → z ≡ nameOf (at (vertices first t) q)
-named-at t q b z h p e = e ∙ ap (λ x. nameOf (decode first x)) p ∙ sym (name-at t q (rw (← vertices-length first t) h))
+pub named-at : (t : List ℕ) (q : ℕ) (z : Name) → q < length (vertices first t) → z ≡ nameAt t q → z ≡ nameOf (at (vertices first t) q)
+named-at t q z h e = e ∙ sym (name-at t q (rw (← vertices-length first t) h))
 
 module _ (vs : List Vertex) (p : ℕ) (x y : Name) (is-x : x ≡ nameOf (at vs p)) (is-y : y ≡ nameOf (at vs (p + 1))) where
   sides : side vs p ≡ eqb (x .round) (y .round) and eqb (x .author) (y .author)

@@ -29,8 +29,8 @@ fn twins(table: &[u8], p: usize) -> bool
     requires { ⌜ p + 1 < recordsOf (now table) ⌝ }
     ensures { λ r. ⌜ r ≡ side (verticesOf (now (table .entry))) p ⌝ }
 {
-    let x = record::name_of(record::part(table, p));
-    let y = record::name_of(record::part(table, p + 1));
+    let x = record::name_at(table, p);
+    let y = record::name_at(table, p + 1);
     if x.round != y.round {
         return false;
     }
@@ -47,7 +47,7 @@ fn split_authors(n: u8, table: &[u8]) -> [u8; 31]
     let mut p: usize = 1;
     while p < k {
         if twins(table, p - 1) {
-            let x = record::name_of(record::part(table, p));
+            let x = record::name_at(table, p);
             split[x.author as usize] = 1;
         }
         p += 1;

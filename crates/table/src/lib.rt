@@ -14,6 +14,7 @@ ghost use Rattle.rules.specs.Check.{check as checked};
 ghost use Rattle.table.specs.Ready.{Reached, Ready};
 ghost use Rattle.table.specs.Rows.{fourToSeven};
 use record::RECORD;
+use record::name_at;
 use record::part;
 use record::records_of;
 use rules::Checked;
@@ -22,7 +23,6 @@ use rules::Refusal;
 use rules::Vertex;
 use search::below;
 use search::lowered;
-use search::name_at;
 use search::raised;
 use search::same;
 

@@ -32,12 +32,12 @@ twins-requires c κs =
 array-write-split : tie.Need-array-write-split Inv-loop μ-loop
 array-write-split c =
     let x = c .before in
-    let l = x .before .before .before .before .before in
+    let l = x .before .before .before .before in
     let s = l .before .before .before in
     let t = s .args .table .now in
     let within : l .loop .p < length (vertices first t) = omega (arith, l .before .records-of .ensures, vertices-length first t) in
-    author-few (s .pre .accepted) (l .loop .p) (x .name-of .result) within
-    (named-at t (l .loop .p) _ (x .name-of .result) within (x .before .part .ensures .bytes) (x .name-of .ensures))
+    author-few (s .pre .accepted) (l .loop .p) (x .name-at .result) within
+    (named-at t (l .loop .p) (x .name-at .result) within (x .name-at .ensures))
 
 loop-again : tie.Need-loop-again Inv-loop μ-loop
 loop-again c =
@@ -51,9 +51,9 @@ loop-again c =
     let more : c .if1 .split ≡ splits vs (p + 1 - 1) =
     ⊎-elim
     (λ w.
-    let x = w .2 .result in
-    let is = named-at t p _ x within (w .1 .ensures .bytes) (w .2 .ensures) in
-    w .4 ∙ ap (λ b. set b (x .author) 1) (l .loop .inv .2)
+    let x = w .1 .result in
+    let is = named-at t p x within (w .1 .ensures) in
+    w .3 ∙ ap (λ b. set b (x .author) 1) (l .loop .inv .2)
     ∙ splits-more vs p (omega arith) (x .author) (sym told ∙ w .0 .taken) (ap (λ (y : Name). y .author) is) (author-few (s .pre .accepted) p x within is))
     (λ w. w .1 ∙ l .loop .inv .2 ∙ splits-apart vs p (omega arith) (sym told ∙ w .0 .left))
     (c .if1 .came)
@@ -78,7 +78,7 @@ split-authors-spec =
     loop-holds
     (λ c. search needs)
     twins-requires
-    (λ c κs. search needs) (λ c κs. search needs) (λ c. search needs)
+    (λ c κs. search needs) (λ c. search needs)
     array-write-split
     (λ c. search needs) (λ c. search needs)
     loop-again

@@ -9,37 +9,37 @@ use borrow.Author.Needs.{needs}
 use Rattle.settlement.proofs.counts.twins.Statement.{statement}
 use Rattle.settlement.proofs.counts.twins.Tie as tie
 
-add-part : tie.Need-add-part
-add-part c =
-    let s = c .before .before .before in
+add-name-at : tie.Need-add-name-at
+add-name-at c =
+    let s = c .before .before in
     record { fits = omega (arith, s .pre, vertices-length first (s .args .table .now)) }
 
 returns : tie.Need-returns
 returns c =
     let y = c .before .before .before in
-    let x = y .before .before in
-    let s = x .before .before .before in
+    let x = y .before in
+    let s = x .before .before in
     let t = s .args .table .now in
-    let is-x = named-at t (s .args .p) _ (x .name-of .result) (omega (arith, s .pre)) (x .before .part .ensures .bytes) (x .name-of .ensures) in
-    let is-y = named-at t (s .args .p + 1) _ (y .name-of2 .result) (s .pre) (y .before .part2 .ensures .bytes) (y .name-of2 .ensures) in
-    other-rounds (vertices first t) (s .args .p) (x .name-of .result) (y .name-of2 .result) is-x is-y (c .if1 .taken)
+    let is-x = named-at t (s .args .p) (x .name-at .result) (omega (arith, s .pre)) (x .name-at .ensures) in
+    let is-y = named-at t (s .args .p + 1) (y .name-at2 .result) (s .pre) (y .name-at2 .ensures) in
+    other-rounds (vertices first t) (s .args .p) (x .name-at .result) (y .name-at2 .result) is-x is-y (c .if1 .taken)
 
 returns-2 : tie.Need-returns-2
 returns-2 c =
     let y = c .before .before .before .before .before in
-    let x = y .before .before in
-    let s = x .before .before .before in
+    let x = y .before in
+    let s = x .before .before in
     let t = s .args .table .now in
-    let is-x = named-at t (s .args .p) _ (x .name-of .result) (omega (arith, s .pre)) (x .before .part .ensures .bytes) (x .name-of .ensures) in
-    let is-y = named-at t (s .args .p + 1) _ (y .name-of2 .result) (s .pre) (y .before .part2 .ensures .bytes) (y .name-of2 .ensures) in
-    same-rounds (vertices first t) (s .args .p) (x .name-of .result) (y .name-of2 .result) is-x is-y (c .before .before .if1 .left)
+    let is-x = named-at t (s .args .p) (x .name-at .result) (omega (arith, s .pre)) (x .name-at .ensures) in
+    let is-y = named-at t (s .args .p + 1) (y .name-at2 .result) (s .pre) (y .name-at2 .ensures) in
+    same-rounds (vertices first t) (s .args .p) (x .name-at .result) (y .name-at2 .result) is-x is-y (c .before .before .if1 .left)
 
 pub twins-spec : {M : Type 1} → statement M
 twins-spec =
     tie.close
     (tie.spec
-    (λ c κs. search needs) (λ c κs. search needs)
-    add-part
-    (λ c κs. search needs) (λ c κs. search needs)
+    (λ c κs. search needs)
+    add-name-at
+    (λ c κs. search needs)
     returns
     returns-2)

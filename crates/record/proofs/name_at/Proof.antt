@@ -1,11 +1,11 @@
--- `search::name_at` meets its contract: the part is the record at p.
+-- `record::name_at` meets its contract: the part is the record at p.
 -- Assumes nothing.
 use mathlib.Core.Path.{_≡_}
 use denote.Ref.{now}
 use Rattle.rules.specs.Record.{first, recordAt}
 use borrow.Author.Needs.{needs}
-use Rattle.search.proofs.name_at.Statement.{statement}
-use Rattle.search.proofs.name_at.Tie as tie
+use Rattle.record.proofs.name_at.Statement.{statement}
+use Rattle.record.proofs.name_at.Tie as tie
 
 returns : tie.Need-returns
 returns c =

@@ -1,6 +1,6 @@
 -- The search by halves: its turns, and that it finds the first number at which a test that holds up to some number and fails from there on fails.
 -- Assumes nothing.
-use Prim.Native.Nat.{ℕ, zero, suc, _+_, _-_, _/_, _≤_, _<_, min, zero-le}
+use Prim.Native.Nat.{ℕ, zero, suc, _+_, _-_, _/_, _%_, _≤_, _<_, zero-le}
 use mathlib.Core.Path.{_≡_, refl, sym, ap, _∙_}
 use mathlib.Core.Bool.{Bool, true, false, not, cond}
 use mathlib.Core.List.{List}
@@ -18,8 +18,8 @@ use Rattle.search.specs.Search.{halves, nameAt, placeOf, findBelow}
 -- ---- the turns
 
 -- a search never reaches the largest number there is
-pub raised-is : (held : Bool) (lo m r : ℕ) → r ≡ cond held (min (m + 1) 18446744073709551615) lo → m < 18446744073709551615 → r ≡ cond held (m + 1) lo
-raised-is held lo m r e l = let q : min (m + 1) 18446744073709551615 ≡ m + 1 = omega arith in e ∙ ap (λ k. cond held k lo) q
+pub raised-is : (held : Bool) (lo m r : ℕ) → r ≡ cond held ((m + 1) % 18446744073709551616) lo → m < 18446744073709551615 → r ≡ cond held (m + 1) lo
+raised-is held lo m r e l = let q : (m + 1) % 18446744073709551616 ≡ m + 1 = omega arith in e ∙ ap (λ k. cond held k lo) q
 
 pub halves-end : (p : ℕ → Bool) (k lo hi : ℕ) → hi ≤ lo → halves p k lo hi ≡ lo
 unfolding halves

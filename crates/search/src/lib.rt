@@ -2,7 +2,7 @@
 // rise is defined too.
 ghost use mathlib.Core.Path.{_≡_};
 ghost use mathlib.Core.Bool.{cond};
-ghost use Prim.Native.Nat.{_+_, min};
+ghost use Prim.Native.Nat.{_+_, _%_, min};
 ghost use Rattle.rules.specs.Record.{first, records, vertices, sameName};
 ghost use Rattle.rules.specs.Record.{below as isBelow};
 ghost use Rattle.rules.specs.Decide.{highest};
@@ -41,17 +41,12 @@ pub fn same(x: Name, y: Name) -> bool
 
 // ---- the search by halves
 
-// Past the middle, where the test held there. No search reaches the largest number there is.
+// Past the middle, where the test held there. No search reaches the largest number there is, and a sum that wraps leaves the compiler no branch.
 pub fn raised(held: bool, lo: usize, m: usize) -> usize
-    ensures { λ r. ⌜ r ≡ cond held (min (m + 1) 18446744073709551615) lo ⌝ }
+    ensures { λ r. ⌜ r ≡ cond held ((m + 1) % 18446744073709551616) lo ⌝ }
 {
-    if held {
-        if m < 18446744073709551615 {
-            return m + 1;
-        }
-        return 18446744073709551615;
-    }
-    lo
+    let past = std::num::wrapping_add_usize(m, 1);
+    if held { past } else { lo }
 }
 
 // Down to the middle, where it did not.

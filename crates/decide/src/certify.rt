@@ -6,7 +6,7 @@ ghost use lib.Dec.{ltb};
 ghost use Rattle.rules.specs.Record.{first, at, entry};
 ghost use Rattle.decide.specs.Ready.{verticesOf, recordsOf, Sound};
 ghost use Rattle.decide.specs.Certify.{backs, certifiedAt};
-use crate::range::entry_at;
+use record::entry_at;
 use references::places_of;
 use rules::Name;
 use search::find;

@@ -1,8 +1,7 @@
 // Where the records of a round, and of an author in it, begin. Names rise, so they stand side by side.
 ghost use mathlib.Core.Path.{_≡_};
-ghost use Prim.Native.Nat.{_<_};
-ghost use Rattle.rules.specs.Record.{first, at, entry};
-ghost use Rattle.decide.specs.Ready.{verticesOf, recordsOf, Sound};
+ghost use Rattle.rules.specs.Record.{first};
+ghost use Rattle.decide.specs.Ready.{verticesOf, Sound};
 ghost use Rattle.decide.specs.Range.{startOf};
 use rules::Name;
 use search::place;
@@ -21,12 +20,4 @@ pub(crate) fn begin(n: u8, table: &[u8], round: u32, author: u8) -> usize
             mark: 0,
         },
     )
-}
-
-// Entry i of the record at p.
-pub(crate) fn entry_at(table: &[u8], p: usize, i: usize) -> u32
-    requires { ⌜ p < recordsOf (now table) ⌝ }
-    ensures { λ r. ⌜ r ≡ entry (at (verticesOf (now (table .entry))) p) i ⌝ }
-{
-    record::entry_at(table, p, i)
 }

@@ -10,7 +10,7 @@ ghost use Rattle.decide.specs.Certify.{certifiedAt};
 ghost use Rattle.decide.specs.Work.{tagAt, Tagged, authorsTagged, windowTag};
 use crate::certify::certified_at;
 use crate::range::begin;
-use crate::range::entry_at;
+use record::entry_at;
 use tally::once;
 
 // The byte with another tag; whether it is in the history stays.

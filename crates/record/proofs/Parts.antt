@@ -1,14 +1,15 @@
 -- The bytes that the code lends of a table are those of the record at a position.
 -- Assumes nothing.
 use Prim.Native.Nat.{ℕ, _+_, _-_, _*_, _≤_, _<_, min}
-use mathlib.Core.Path.{_≡_, sym, _∙_}
+use mathlib.Core.Path.{_≡_, sym, ap, _∙_}
 use mathlib.Core.List.{List}
 use native.Mathlib.Nat.{le-refl}
 use native.Mathlib.Omega.{arith}
-use lib.ListN.{length, take, drop, length-drop, drop-of-length-le}
+use lib.ListN.{length, take, drop, length-drop, drop-of-length-le, List·getD-eq-default}
 use lib.Seq.{take-all}
 use denote.Ref.{RefT, now}
-use Rattle.rules.specs.Record.{first, recordAt, records}
+use Rattle.rules.specs.Record.{first, recordAt, decode, records, vertices, noVertex, at}
+use Rattle.rules.proofs.Records.{vertices-length, vertices-at}
 use Rattle.record.specs.Part.{PartOf, RecordPart}
 
 -- of a whole record, as many as it has
@@ -36,3 +37,10 @@ unfolding recordAt
 whole-part t r p R l =
     let begin : min (138 * p) (length (now t)) ≡ 138 * p = omega arith in
     record { block = R .block; place = rw begin at (R .place); bytes = R .bytes }
+
+-- the vertex at a position is the record's, decoded; past the last whole record it has zeros
+pub part-vertex : (t b : List ℕ) (p : ℕ) → b ≡ recordAt first t p → p < records first t → decode first b ≡ at (vertices first t) p
+part-vertex t b p e l = ap (decode first) e ∙ sym (vertices-at first t p l)
+
+pub past-vertex : (t : List ℕ) (p : ℕ) → records first t ≤ p → at (vertices first t) p ≡ noVertex
+past-vertex t p l = List·getD-eq-default (vertices first t) noVertex (rw vertices-length l)

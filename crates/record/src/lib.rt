@@ -4,7 +4,7 @@ ghost use Prim.Native.Nat.{_+_, _-_, _*_};
 ghost use lib.ListN.{getD, drop};
 ghost use Rattle.record.specs.Copy.{copyOf};
 ghost use Rattle.record.specs.Part.{RecordPart};
-ghost use Rattle.rules.specs.Record.{number, first, records, recordAt, decode as decoded, sumOf, nameOf, entry};
+ghost use Rattle.rules.specs.Record.{number, first, records, vertices, at, decode as decoded, sumOf, nameOf, entry};
 use rules::Name;
 use rules::Vertex;
 use tally::smaller;
@@ -198,18 +198,28 @@ pub fn entry_of(b: &[u8], i: usize) -> u32
     0
 }
 
-// ---- fields of the record at a position. They stand here, and not where they are asked for, because a call from another crate is not compiled into its caller.
+// ---- fields of the record at a position; zeros where there is no whole record
 
 // The name of the record at p.
 pub fn name_at(table: &[u8], p: usize) -> Name
-    ensures { λ r. ⌜ r ≡ nameOf (decoded first (recordAt first (now (table .entry)) p)) ⌝ }
+    ensures { λ r. ⌜ r ≡ nameOf (at (vertices first (now (table .entry))) p) ⌝ }
 {
-    name_of(part(table, p))
+    if p < table.len() / RECORD {
+        return name_of(part(table, p));
+    }
+    Name {
+        round: 0,
+        author: 0,
+        mark: 0,
+    }
 }
 
 // Entry i of the record at p.
 pub fn entry_at(table: &[u8], p: usize, i: usize) -> u32
-    ensures { λ r. ⌜ r ≡ entry (decoded first (recordAt first (now (table .entry)) p)) i ⌝ }
+    ensures { λ r. ⌜ r ≡ entry (at (vertices first (now (table .entry))) p) i ⌝ }
 {
-    entry_of(part(table, p), i)
+    if p < table.len() / RECORD {
+        return entry_of(part(table, p), i);
+    }
+    0
 }

@@ -5,7 +5,7 @@ use mathlib.Core.Path.{_≡_, refl, sym, _∙_}
 use mathlib.Core.Logic.{_≢_}
 use mathlib.Core.List.{List, []}
 use native.Mathlib.Omega.{arith}
-use lib.ListN.{getD, List·getD-eq-default}
+use lib.ListN.{getD}
 use borrow.Author.Tests.{lt-ltb, le-ltb}
 use Rattle.rules.specs.declared.Name.{Name}
 use Rattle.rules.specs.declared.Vertex.{Vertex}
@@ -13,26 +13,15 @@ use Rattle.rules.specs.declared.Refusal.{Refusal}
 use Rattle.rules.specs.declared.Counts.{Counts}
 use Rattle.rules.specs.declared.Outcome.{Outcome}
 use Rattle.rules.specs.declared.Outcome.the-variants.{Settled, Refused}
-use Rattle.rules.specs.Record.{first, records, vertices, at, noVertex, nameOf}
+use Rattle.rules.specs.Record.{first, vertices, at, nameOf}
 use Rattle.rules.specs.Refusals.{rowOf, outcomeTells}
 use Rattle.rules.specs.Decision.{said}
 use Rattle.rules.specs.Program.{lineX, lineS, lineR}
-use Rattle.rules.proofs.Records.{vertices-length}
-use Rattle.search.specs.Search.{nameAt}
-use Rattle.search.proofs.Names.{name-at}
 use Rattle.lines.specs.Fills.{Fills}
 use Rattle.lines.specs.Lines.{lineUndecided, lineSkipped, lineCommitted, lineNamed}
 use Rattle.lines.proofs.Lines.{undecided-line, skipped-line, committed-line, named-line}
 use Rattle.lines.proofs.Text.{fills-so}
 use Rattle.report.specs.Output.{laterLine, settledLine, outputLine}
-
--- ---- the name at a position
-
-pub name-within : (t : List ℕ) (p k : ℕ) (x : Name) → k ≡ records first t → p < k → x ≡ nameAt t p → x ≡ nameOf (at (vertices first t) p)
-name-within t p k x is h e = e ∙ sym (name-at t p (omega arith))
-
-pub name-past : (t : List ℕ) (p k : ℕ) → k ≡ records first t → k ≤ p → nameOf noVertex ≡ nameOf (at (vertices first t) p)
-name-past t p k is h = rw (List·getD-eq-default (vertices first t) noVertex {n = p} (rw vertices-length (omega arith)))
 
 -- ---- the line of a round
 

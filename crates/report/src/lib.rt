@@ -2,7 +2,7 @@
 ghost use mathlib.Core.Path.{_≡_};
 ghost use Prim.Native.Nat.{_+_, min};
 ghost use lib.ListN.{getD};
-ghost use Rattle.rules.specs.Record.{first, vertices, at, nameOf};
+ghost use Rattle.rules.specs.Record.{first, vertices};
 ghost use Rattle.rules.specs.Refusals.{outcomeTells};
 ghost use Rattle.rules.specs.Decision.{said};
 ghost use Rattle.rules.specs.Program.{lineR};
@@ -14,8 +14,8 @@ use lines::line_settled;
 use lines::line_skipped;
 use lines::line_undecided;
 use lines::line_vertex;
+use record::name_at;
 use rules::Counts;
-use rules::Name;
 use rules::Outcome;
 use rules::Settlement;
 
@@ -30,20 +30,6 @@ fn number_at(s: &[u32], i: usize) -> u32
         return s[i];
     }
     0
-}
-
-// The name of the record at p; zeros where there is none. The test comes first, so that no product overflows.
-fn name_at(table: &[u8], p: usize) -> Name
-    ensures { λ r. ⌜ r ≡ nameOf (at (vertices first (now (table .entry))) p) ⌝ }
-{
-    if p < record::records_of(table) {
-        return record::name_at(table, p);
-    }
-    Name {
-        round: 0,
-        author: 0,
-        mark: 0,
-    }
 }
 
 // The line of a round, by its cell.

@@ -2,7 +2,7 @@
 // rise is defined too.
 ghost use mathlib.Core.Path.{_≡_};
 ghost use mathlib.Core.Bool.{cond};
-ghost use Prim.Native.Nat.{_+_, _%_, min};
+ghost use Prim.Native.Nat.{_+_, _%_, _≤_, min};
 ghost use Rattle.rules.specs.Record.{first, records, vertices, sameName};
 ghost use Rattle.rules.specs.Record.{below as isBelow};
 ghost use Rattle.rules.specs.Decide.{highest};
@@ -58,6 +58,7 @@ pub fn lowered(held: bool, hi: usize, m: usize) -> usize
 
 // Where x stands or would stand among the first k records, if their names rise.
 fn place_of(table: &[u8], k: usize, x: Name) -> usize
+    requires { ⌜ k ≤ records first (now table) ⌝ }
     ensures { λ r. ⌜ r ≡ placeOf (now (table .entry)) k x ⌝ }
 {
     let mut lo: usize = 0;

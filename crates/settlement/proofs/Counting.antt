@@ -21,8 +21,6 @@ use Rattle.rules.specs.Settlement.{equivocates, equivocators}
 use Rattle.rules.proofs.Names.{Below, is-below, below-round, below-mark}
 use Rattle.rules.proofs.Records.{vertices-length}
 use Rattle.rules.proofs.Accepted.{Accepted, author-low, rising}
-use Rattle.search.specs.Search.{nameAt}
-use Rattle.search.proofs.Names.{name-at}
 use Rattle.folds.proofs.Over.{or-last, set-tabulate}
 use Rattle.settlement.specs.Twins.{side}
 
@@ -116,9 +114,6 @@ module _ {n : ℕ} {vs : List Vertex} (A : Accepted n vs) where
           (and-true _ _ (eq-eqb _ _ u) (and-true _ _ (eq-eqb _ _ (sym r)) (is-not (ne-eqb _ _ d))))))
 
 -- ---- the names of two neighbours, as they are read
-
-pub named-at : (t : List ℕ) (q : ℕ) (z : Name) → q < length (vertices first t) → z ≡ nameAt t q → z ≡ nameOf (at (vertices first t) q)
-named-at t q z h e = e ∙ sym (name-at t q (rw (← vertices-length first t) h))
 
 module _ (vs : List Vertex) (p : ℕ) (x y : Name) (is-x : x ≡ nameOf (at vs p)) (is-y : y ≡ nameOf (at vs (p + 1))) where
   sides : side vs p ≡ eqb (x .round) (y .round) and eqb (x .author) (y .author)

@@ -103,7 +103,6 @@ fn fields_wrong(n: u8, v: Vertex) -> bool
 
 // Position above 0, and the name is not above the one before it.
 fn not_above(table: &[u8], p: usize) -> bool
-    requires { ⌜ p < records first (now table) ⌝ }
     ensures { λ r. ⌜ r ≡ notAbove (vertices first (now (table .entry))) p ⌝ }
 {
     if p == 0 {

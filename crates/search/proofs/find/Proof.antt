@@ -1,9 +1,11 @@
 -- `search::find` meets its contract: the place that the halving finds has the name, or no place has it.
 -- Assumes nothing.
 use Prim.Native.Nat.{min}
-use mathlib.Core.Path.{_≡_, sym}
+use mathlib.Core.Path.{_≡_, sym, _∙_}
+use native.Mathlib.Omega.{arith}
 use Rattle.rules.specs.Record.{first, records}
 use Rattle.search.specs.Search.{nameAt}
+use Rattle.search.proofs.Names.{name-at}
 use Rattle.search.proofs.Search.{found-here, found-other, found-past}
 use borrow.Author.Needs.{needs}
 use Rattle.search.proofs.find.Statement.{statement}
@@ -15,7 +17,7 @@ returns c =
     let m = s .before .before .before in
     let a = m .before .before .before .before .args in
     let k : m .before .smaller .result ≡ min (a .count) (records first (a .table .now)) = rw (← m .before .before .records-of .ensures) (m .before .smaller .ensures) in
-    let y : s .before .name-at .result ≡ nameAt (a .table .now) (m .place-of .result) = s .before .name-at .ensures in
+    let y : s .before .name-at .result ≡ nameAt (a .table .now) (m .place-of .result) = s .before .name-at .ensures ∙ name-at (a .table .now) _ (omega arith) in
     rw (← k)
     (sym (found-here (a .table .now) _ (a .x) _ (m .place-of .ensures) (s .before .before .if1 .taken) (rw (← y, ← s .same .ensures) (c .if2 .taken))))
 
@@ -25,8 +27,9 @@ returns-2 c =
     let m = s .before .before .before in
     let a = m .before .before .before .before .args in
     let k : m .before .smaller .result ≡ min (a .count) (records first (a .table .now)) = rw (← m .before .before .records-of .ensures) (m .before .smaller .ensures) in
+    let y : s .before .name-at .result ≡ nameAt (a .table .now) (m .place-of .result) = s .before .name-at .ensures ∙ name-at (a .table .now) _ (omega arith) in
     rw (← k)
-    (sym (found-other (a .table .now) _ (a .x) _ (m .place-of .ensures) (s .before .before .if1 .taken) (rw (← s .before .name-at .ensures, ← s .same .ensures) (c .if2 .left))))
+    (sym (found-other (a .table .now) _ (a .x) _ (m .place-of .ensures) (s .before .before .if1 .taken) (rw (← y, ← s .same .ensures) (c .if2 .left))))
 
 returns-3 : tie.Need-returns-3
 returns-3 c =

@@ -3,6 +3,7 @@
 use mathlib.Core.Path.{sym, ap, _∙_}
 use native.Mathlib.Omega.{arith}
 use Rattle.rules.specs.declared.Name.{Name}
+use Rattle.search.proofs.Names.{name-at}
 use Rattle.search.proofs.Highest.{highest-empty, highest-last}
 use borrow.Author.Needs.{needs}
 use Rattle.search.proofs.highest_of.Statement.{statement}
@@ -15,7 +16,7 @@ returns-2 : tie.Need-returns-2
 returns-2 c =
     let k = c .before .before in
     let t = k .before .before .args .table .now in
-    ap (λ (x : Name). x .round) (c .name-at .ensures) ∙ sym (highest-last t (k .records-of .result) (k .records-of .ensures) (c .before .if1 .left))
+    ap (λ (x : Name). x .round) (c .name-at .ensures ∙ name-at t _ (omega (arith, k .records-of .ensures))) ∙ sym (highest-last t (k .records-of .result) (k .records-of .ensures) (c .before .if1 .left))
 
 pub highest-of-spec : {M : Type 1} → statement M
 highest-of-spec =

@@ -2,12 +2,13 @@
 -- The measure is how many records are left.
 -- Assumes nothing.
 use Prim.Native.Nat.{ℕ, _+_, _-_, _/_, _≤_}
-use mathlib.Core.Path.{_≡_, refl, sym, _∙_}
+use mathlib.Core.Path.{_≡_, refl, sym, ap, _∙_}
 use mathlib.Core.Bool.{Bool}
 use mathlib.Core.List.{List}
 use Rattle.rules.specs.declared.Name.{Name}
 use Rattle.rules.specs.Record.{below}
 use Rattle.search.specs.Search.{halves, nameAt, placeOf}
+use Rattle.search.proofs.Names.{name-at}
 use Rattle.search.proofs.Search.{place-start, raised-is, halves-end, halved, halves-turn}
 use native.Mathlib.Omega.{arith}
 use borrow.Author.Needs.{needs}
@@ -40,7 +41,8 @@ loop-again c =
     let held = c .before .before .below .result in
     let up = raised-is (c .before .before .below .result) (l .loop .lo) (l .loop .lo + (l .loop .hi - l .loop .lo) / 2) _ (c .before .raised .ensures) (omega arith) in
     let h = halved held (l .loop .lo) (l .loop .hi) _ _ _ refl (omega arith) up (c .lowered .ensures) in
-    let e : held ≡ lower (a .table .now) (a .x) (l .loop .lo + (l .loop .hi - l .loop .lo) / 2) = rw (← c .before .before .before .name-at .ensures) (c .before .before .below .ensures) in
+    let e : held ≡ lower (a .table .now) (a .x) (l .loop .lo + (l .loop .hi - l .loop .lo) / 2) =
+    c .before .before .below .ensures ∙ ap (λ y. below y (a .x)) (c .before .before .before .name-at .ensures ∙ name-at (a .table .now) _ (omega arith)) in
     (h .ordered, omega (arith, h .within), l .loop .inv .2 ∙ halves-turn held (l .loop .lo) (l .loop .hi) _ _ _ refl (omega arith) up (c .lowered .ensures) (lower (a .table .now) (a .x)) e)
 
 returns : tie.Need-returns Inv-loop μ-loop

@@ -3,7 +3,7 @@
 -- The measures are the entries and the records that are left.
 -- Assumes nothing.
 use Prim.Native.Nat.{_+_, _-_, _/_, _≤_, _<_}
-use mathlib.Core.Path.{_≡_, refl, sym}
+use mathlib.Core.Path.{_≡_, refl, sym, _∙_}
 use mathlib.Core.Logic.{⊎-elim}
 use mathlib.Core.Bool.{true, false}
 use Rattle.folds.specs.Folds.{anyTo}
@@ -11,6 +11,7 @@ use Rattle.folds.proofs.Laws.{any-start, any-next}
 use Rattle.rules.specs.Record.{entry, sameName, below, named}
 use Rattle.rules.proofs.Names.{entry-named}
 use Rattle.search.specs.Search.{nameAt}
+use Rattle.search.proofs.Names.{name-at}
 use Rattle.search.proofs.Search.{raised-is, halved}
 use Rattle.search.proofs.Rise.{Searched, searched-start, searched-turn}
 use Rattle.table.proofs.Earlier.{rise, missing, missing-empty, none-missing, some-missing, not-missing}
@@ -53,9 +54,10 @@ loop-again c =
     let t = s .args .table .now in
     let x = named (s .args .v .round - 1) (l .before .before .before .before .entries .i) (entry (s .args .v) (l .before .before .before .before .entries .i)) in
     let m = l .loop .lo + (l .loop .hi - l .loop .lo) / 2 in
-    let other : sameName (nameAt t m) x ≡ false = rw (← y .name-at .ensures, ← b .before .before .same .ensures) (b .before .if4 .left) in
+    let read : y .name-at .result ≡ nameAt t m = y .name-at .ensures ∙ name-at t m (omega (arith, l .loop .inv .within, s .pre .within)) in
+    let other : sameName (nameAt t m) x ≡ false = rw (← read, ← b .before .before .same .ensures) (b .before .if4 .left) in
     let up = raised-is (b .below .result) (l .loop .lo) m _ (c .before .raised .ensures) (omega arith) in
-    let held : b .below .result ≡ below (nameAt t m) x = rw (← y .name-at .ensures) (b .below .ensures) in
+    let held : b .below .result ≡ below (nameAt t m) x = rw (← read) (b .below .ensures) in
     searched-turn t (s .args .p) x (rise (s .args .n) t (s .args .p) (s .args .v) (s .pre)) (l .loop .lo) (l .loop .hi) m refl (omega arith) (l .loop .inv) other (b .below .result) _ _ held up (c .lowered .ensures)
 
 entries-again : tie.Need-entries-again Inv-loop μ-loop Inv-entries μ-entries
@@ -71,7 +73,8 @@ entries-again c =
     let x = named (v .round - 1) i (entry v i) in
     let m = w .2 .lo + (w .2 .hi - w .2 .lo) / 2 in
     let low : m < s .args .p = omega (arith, w .2 .inv .within) in
-    let found : sameName (nameAt t m) x ≡ true = rw (← w .4 .ensures, ← w .5 .ensures) (w .6 .taken) in
+    let read : w .4 .result ≡ nameAt t m = w .4 .ensures ∙ name-at t m (omega (arith, s .pre .within)) in
+    let found : sameName (nameAt t m) x ≡ true = rw (← read, ← w .5 .ensures) (w .6 .taken) in
     not-missing (s .args .n) t (s .args .p) v (s .pre) i x (entry-named v i) (w .0 .taken) m low found)
     (λ w. missing-empty t (s .args .p) v i (w .left))
     (c .if2 .came)

@@ -8,7 +8,7 @@ use lib.ListN.{length, set}
 use Rattle.rules.specs.declared.Name.{Name}
 use Rattle.rules.specs.Record.{first, vertices}
 use Rattle.rules.proofs.Records.{vertices-length}
-use Rattle.settlement.proofs.Counting.{splits, splits-start, splits-apart, splits-more, splits-end, named-at, author-few}
+use Rattle.settlement.proofs.Counting.{splits, splits-start, splits-apart, splits-more, splits-end, author-few}
 use native.Mathlib.Omega.{arith}
 use borrow.Author.Needs.{needs}
 use Rattle.settlement.proofs.counts.split_authors.Statement.{statement}
@@ -37,7 +37,7 @@ array-write-split c =
     let t = s .args .table .now in
     let within : l .loop .p < length (vertices first t) = omega (arith, l .before .records-of .ensures, vertices-length first t) in
     author-few (s .pre .accepted) (l .loop .p) (x .name-at .result) within
-    (named-at t (l .loop .p) (x .name-at .result) within (x .name-at .ensures))
+    (x .name-at .ensures)
 
 loop-again : tie.Need-loop-again Inv-loop μ-loop
 loop-again c =
@@ -52,7 +52,7 @@ loop-again c =
     ⊎-elim
     (λ w.
     let x = w .1 .result in
-    let is = named-at t p x within (w .1 .ensures) in
+    let is = w .1 .ensures in
     w .3 ∙ ap (λ b. set b (x .author) 1) (l .loop .inv .2)
     ∙ splits-more vs p (omega arith) (x .author) (sym told ∙ w .0 .taken) (ap (λ (y : Name). y .author) is) (author-few (s .pre .accepted) p x within is))
     (λ w. w .1 ∙ l .loop .inv .2 ∙ splits-apart vs p (omega arith) (sym told ∙ w .0 .left))

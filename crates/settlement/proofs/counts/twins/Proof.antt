@@ -4,7 +4,7 @@ use Prim.Native.Nat.{_+_}
 use native.Mathlib.Omega.{arith}
 use Rattle.rules.proofs.Records.{vertices-length}
 use Rattle.rules.specs.Record.{first, vertices}
-use Rattle.settlement.proofs.Counting.{named-at, other-rounds, same-rounds}
+use Rattle.settlement.proofs.Counting.{other-rounds, same-rounds}
 use borrow.Author.Needs.{needs}
 use Rattle.settlement.proofs.counts.twins.Statement.{statement}
 use Rattle.settlement.proofs.counts.twins.Tie as tie
@@ -20,8 +20,8 @@ returns c =
     let x = y .before in
     let s = x .before .before in
     let t = s .args .table .now in
-    let is-x = named-at t (s .args .p) (x .name-at .result) (omega (arith, s .pre)) (x .name-at .ensures) in
-    let is-y = named-at t (s .args .p + 1) (y .name-at2 .result) (s .pre) (y .name-at2 .ensures) in
+    let is-x = x .name-at .ensures in
+    let is-y = y .name-at2 .ensures in
     other-rounds (vertices first t) (s .args .p) (x .name-at .result) (y .name-at2 .result) is-x is-y (c .if1 .taken)
 
 returns-2 : tie.Need-returns-2
@@ -30,8 +30,8 @@ returns-2 c =
     let x = y .before in
     let s = x .before .before in
     let t = s .args .table .now in
-    let is-x = named-at t (s .args .p) (x .name-at .result) (omega (arith, s .pre)) (x .name-at .ensures) in
-    let is-y = named-at t (s .args .p + 1) (y .name-at2 .result) (s .pre) (y .name-at2 .ensures) in
+    let is-x = x .name-at .ensures in
+    let is-y = y .name-at2 .ensures in
     same-rounds (vertices first t) (s .args .p) (x .name-at .result) (y .name-at2 .result) is-x is-y (c .before .before .if1 .left)
 
 pub twins-spec : {M : Type 1} → statement M

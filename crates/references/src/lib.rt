@@ -1,9 +1,10 @@
 // The references of a record, resolved: where each one stands. What follows references asks here, so that they are found in one place.
 ghost use mathlib.Core.Path.{_≡_};
-ghost use Prim.Native.Nat.{pred, min};
+ghost use Prim.Native.Nat.{pred};
 ghost use Rattle.references.specs.Places.{placesOf};
 use rules::Name;
 use search::find;
+use tally::smaller;
 
 // The round before. Round 0, which no table that passes has, is kept.
 fn round_before(round: u32) -> u32
@@ -12,27 +13,19 @@ fn round_before(round: u32) -> u32
     if round == 0 { 0 } else { round - 1 }
 }
 
-// The smaller of two numbers.
-fn smaller(a: usize, b: usize) -> usize
-    ensures { λ r. ⌜ r ≡ min a b ⌝ }
-{
-    if a < b { a } else { b }
-}
-
 // Where the references of the record at p to the first n authors stand, one for each author: below p, if there is one that names an earlier
 // record, and else p. Only the records before p are looked through, and for mark 0, which is no reference, none.
 pub fn places_of(n: u8, table: &[u8], p: usize) -> [usize; 31]
     ensures { λ r. ⌜ r ≡ placesOf n (now (table .entry)) p ⌝ }
 {
     let b = record::part(table, p);
-    let refs = record::refs_of(b);
     let x = record::name_of(b);
     let round = round_before(x.round);
     let k = smaller(n as usize, 31);
     let mut places = [p; 31];
     let mut i: usize = 0;
     while i < k {
-        let mark = refs[i];
+        let mark = record::entry_of(b, i);
         if mark != 0 {
             let y = Name {
                 round,

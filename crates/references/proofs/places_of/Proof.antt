@@ -8,49 +8,48 @@ use mathlib.Core.Bool.{cond}
 use mathlib.Core.List.{List}
 use native.Mathlib.Omega.{arith}
 use lib.Dec.{ltb}
-use lib.ListN.{getD}
 use borrow.Author.Tests.{eq-eqb, ne-eqb}
 use Rattle.rules.specs.declared.Name.{Name}
-use Rattle.rules.specs.Record.{first, recordAt, decode, nameOf, named}
+use Rattle.rules.specs.Record.{first, recordAt, decode, entry, nameOf, named}
 use Rattle.references.specs.Places.{placeAmong, placesAmong, placesOf}
 use Rattle.references.proofs.Filled.{Filled, filled-start, filled-next, filled-keep, filled-end, first-few}
 use borrow.Author.Needs.{needs}
 use Rattle.references.proofs.places_of.Statement.{statement}
 use Rattle.references.proofs.places_of.Tie as tie
 
--- where what mark i names stands
-abbrev place : List ℕ → (p round : ℕ) → List ℕ → ℕ → ℕ
-place t p round refs i = placeAmong t p (named round i (getD refs i 0))
+-- where what entry i of the record at p names stands
+abbrev place : List ℕ → (p round : ℕ) → ℕ → ℕ
+place t p round i = placeAmong t p (named round i (entry (decode first (recordAt first t p)) i))
 
 abbrev Inv-loop : tie.InvT-loop
-Inv-loop n table p refs round k places₀ i₀ places i = (i ≤ k) × Filled (place table p round refs) p i places
+Inv-loop n table p b round k places₀ i₀ places i = (i ≤ k) × Filled (place table p round) p i places
 
 abbrev μ-loop : tie.MeasureT-loop
-μ-loop n table p refs round k places₀ i₀ places i = k - i
+μ-loop n table p b round k places₀ i₀ places i = k - i
 
 loop-holds : tie.Need-loop-holds Inv-loop μ-loop
 loop-holds c = (omega arith, filled-start _ _)
 
-array-read-mark : tie.Need-array-read-mark Inv-loop μ-loop
-array-read-mark c = let k = c .before .before in omega (arith, k .smaller .ensures)
-
 array-write-places : tie.Need-array-write-places Inv-loop μ-loop
-array-write-places c = let k = c .before .before .before .before in omega (arith, k .smaller .ensures)
+array-write-places c = let k = c .before .before .before .before .before in omega (arith, k .smaller .ensures)
 
 loop-again : tie.Need-loop-again Inv-loop μ-loop
 unfolding placeAmong
 loop-again c =
-    let l = c .before .before in
+    let l = c .before .before .before in
     let k = l .before in
+    let b = k .before .before .before in
+    let a = b .before .before .args in
     let i = l .loop .i in
     let low : i < 31 = omega (arith, k .smaller .ensures) in
-    let mark = getD (k .before .before .before .refs-of .result) i 0 in
+    let read : c .before .entry-of .result ≡ entry (decode first (recordAt first (a .table .now) (a .p))) i =
+    c .before .entry-of .ensures ∙ ap (λ v. entry (decode first v) i) (b .part .ensures .bytes) in
     ⊎-elim
     (λ w.
-    let given : mark ≢ 0 = λ z. omega (arith, z, w .0 .taken) in
-    (omega arith, rw (w .2) (filled-next _ _ i (l .loop .places) (w .1 .result) low (w .1 .ensures ∙ rw (ne-eqb _ _ given) refl) (l .loop .inv .1))))
+    let given : entry (decode first (recordAt first (a .table .now) (a .p))) i ≢ 0 = λ z. w .0 .taken (read ∙ z) in
+    (omega arith, rw (w .2) (filled-next _ _ i (l .loop .places) (w .1 .result) low (w .1 .ensures ∙ rw (read, ne-eqb _ _ given) refl) (l .loop .inv .1))))
     (λ w.
-    let none : mark ≡ 0 = omega (arith, w .0 .left) in
+    let none : entry (decode first (recordAt first (a .table .now) (a .p))) i ≡ 0 = sym read ∙ w .0 .left in
     (omega arith, rw (w .1) (filled-keep _ _ i (l .loop .places) low (rw (eq-eqb _ _ none) refl) (l .loop .inv .1))))
     (c .if1 .came)
 
@@ -61,8 +60,7 @@ returns c =
     let k = l .before in
     let r = k .before in
     let x = r .before in
-    let f = x .before in
-    let b = f .before in
+    let b = x .before in
     let a = b .before .before .args in
     let t = a .table .now in
     let e : l .loop .i ≡ min (a .n) 31 = omega (arith, k .smaller .ensures) in
@@ -70,11 +68,9 @@ returns c =
     x .name-of .ensures ∙ ap (λ v. nameOf (decode first v)) (b .part .ensures .bytes) in
     let round : r .round-before .result ≡ pred (decode first (recordAt first t (a .p)) .round) =
     r .round-before .ensures ∙ ap (λ (y : Name). pred (y .round)) name in
-    let refs : f .refs-of .result ≡ decode first (recordAt first t (a .p)) .refs =
-    f .refs-of .ensures ∙ ap (λ v. decode first v .refs) (b .part .ensures .bytes) in
-    rw (← round, ← refs)
-    (filled-end (place t (a .p) (r .round-before .result) (f .refs-of .result)) _ (a .p) (l .loop .i) (l .loop .places)
-    (λ j h. ap (λ y. cond y (place t (a .p) (r .round-before .result) (f .refs-of .result) j) (a .p)) (first-few (a .n) (l .loop .i) j e h)) (l .loop .inv .1))
+    rw (← round)
+    (filled-end (place t (a .p) (r .round-before .result)) _ (a .p) (l .loop .i) (l .loop .places)
+    (λ j h. ap (λ y. cond y (place t (a .p) (r .round-before .result) j) (a .p)) (first-few (a .n) (l .loop .i) j e h)) (l .loop .inv .1))
 
 pub places-of-spec : {M : Type 1} → statement M
 places-of-spec =
@@ -82,11 +78,9 @@ places-of-spec =
     (tie.spec
     Inv-loop
     μ-loop
-    (λ c κs. search needs) (λ c κs. search needs) (λ c κs. search needs) (λ c κs. search needs) (λ c κs. search needs)
+    (λ c κs. search needs) (λ c κs. search needs) (λ c κs. search needs) (λ c κs. search needs)
     loop-holds
-    (λ c. search needs)
-    array-read-mark
-    (λ c. search needs) (λ c κs. search needs) (λ c. search needs)
+    (λ c κs. search needs) (λ c. search needs) (λ c κs. search needs) (λ c. search needs)
     array-write-places
     (λ c. search needs) (λ c. search needs)
     loop-again

@@ -9,7 +9,6 @@ use lib.ListN.{getD}
 use denote.Ref.{RefT, now}
 use Rattle.rules.specs.declared.Name.{Name}
 use Rattle.rules.specs.declared.Refusal.{Refusal}
-use Rattle.rules.specs.declared.Refusal.the-variants.{Authors, Length, Records, Sum, Fields, Rising, Entries, Earlier, Round, Lent, Unnamed, Input}
 use Rattle.rules.specs.declared.Checked.{Checked}
 use Rattle.rules.specs.declared.Checked.the-variants as checked
 use Rattle.rules.specs.declared.LookupAnswer.{LookupAnswer}
@@ -19,7 +18,7 @@ use Rattle.rules.specs.declared.Outcome.the-variants as outcome
 use Rattle.rules.specs.Record.{first}
 use Rattle.rules.specs.Refusals.{rowOf, refused, refusalTells, checkTells, lookupTells, outcomeTells}
 use Rattle.rules.specs.Lookup.{lookupBegin, lookupLength}
-use Rattle.rules.proofs.Refusals.{one-value, refusal-unique}
+use Rattle.rules.proofs.Refusals.{one-value, number-above, refusal-unique}
 use Rattle.record.specs.Part.{PartOf}
 use Rattle.exports.specs.declared.Answer.{Answer}
 use Rattle.exports.specs.declared.Part.{Part}
@@ -28,18 +27,7 @@ use Rattle.exports.specs.Answers.{answerAs, partAs, settledAs}
 
 -- no refusal has the number 0
 numbered-above : (r : Refusal) → rowOf r .number ≡ 0 → ⊥
-numbered-above Authors e = omega arith
-numbered-above Length e = omega arith
-numbered-above Records e = omega arith
-numbered-above (Sum p) e = omega arith
-numbered-above (Fields p) e = omega arith
-numbered-above (Rising p) e = omega arith
-numbered-above (Entries p) e = omega arith
-numbered-above (Earlier p) e = omega arith
-numbered-above (Round p) e = omega arith
-numbered-above Lent e = omega arith
-numbered-above Unnamed e = omega arith
-numbered-above Input e = omega arith
+numbered-above r e = omega (arith, number-above r)
 
 -- number and position fix a refusal
 refusal-fixed : (r s : Refusal) → rowOf r .number ≡ rowOf s .number → getD (rowOf r .values) 0 0 ≡ getD (rowOf s .values) 0 0 → r ≡ s

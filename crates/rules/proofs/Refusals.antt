@@ -141,38 +141,35 @@ unnumber (suc (suc (suc (suc (suc (suc (suc (suc (suc (suc zero)))))))))) p = Le
 unnumber (suc (suc (suc (suc (suc (suc (suc (suc (suc (suc (suc zero))))))))))) p = Unnamed
 unnumber (suc (suc (suc (suc (suc (suc (suc (suc (suc (suc (suc (suc k)))))))))))) p = Input
 
-rowed : (r : Refusal) → unnumber (rowOf r .number) (getD (rowOf r .values) 0 0) ≡ r
-unfolding unnumber
-rowed Authors = refl
-rowed Length = refl
-rowed Records = refl
-rowed (Sum p) = refl
-rowed (Fields p) = refl
-rowed (Rising p) = refl
-rowed (Entries p) = refl
-rowed (Earlier p) = refl
-rowed (Round p) = refl
-rowed Lent = refl
-rowed Unnamed = refl
-rowed Input = refl
+-- What each row is: it has its own number, above 0, and one value, the position.
+record Rowed (r : Refusal) : Type 0 where
+  fixed : unnumber (rowOf r .number) (getD (rowOf r .values) 0 0) ≡ r
+  one : rowOf r .values ≡ getD (rowOf r .values) 0 0 ∷ []
+  above : 0 < rowOf r .number
 
--- each refusal tells one value, the position
+rowed : (r : Refusal) → Rowed r
+unfolding unnumber
+rowed Authors = record { fixed = refl; one = refl; above = omega arith }
+rowed Length = record { fixed = refl; one = refl; above = omega arith }
+rowed Records = record { fixed = refl; one = refl; above = omega arith }
+rowed (Sum p) = record { fixed = refl; one = refl; above = omega arith }
+rowed (Fields p) = record { fixed = refl; one = refl; above = omega arith }
+rowed (Rising p) = record { fixed = refl; one = refl; above = omega arith }
+rowed (Entries p) = record { fixed = refl; one = refl; above = omega arith }
+rowed (Earlier p) = record { fixed = refl; one = refl; above = omega arith }
+rowed (Round p) = record { fixed = refl; one = refl; above = omega arith }
+rowed Lent = record { fixed = refl; one = refl; above = omega arith }
+rowed Unnamed = record { fixed = refl; one = refl; above = omega arith }
+rowed Input = record { fixed = refl; one = refl; above = omega arith }
+
 pub one-value : (r : Refusal) → rowOf r .values ≡ getD (rowOf r .values) 0 0 ∷ []
-one-value Authors = refl
-one-value Length = refl
-one-value Records = refl
-one-value (Sum p) = refl
-one-value (Fields p) = refl
-one-value (Rising p) = refl
-one-value (Entries p) = refl
-one-value (Earlier p) = refl
-one-value (Round p) = refl
-one-value Lent = refl
-one-value Unnamed = refl
-one-value Input = refl
+one-value r = rowed r .one
+
+pub number-above : (r : Refusal) → 0 < rowOf r .number
+number-above r = rowed r .above
 
 pub refusal-unique : {A : Type 0} (r s : Refusal) → _≡_ {A = Told A} (refusalTells r) (refusalTells s) → r ≡ s
-refusal-unique r s e = sym (rowed r) ∙ ap (λ c. unnumber (numberOf c) (positionOf c)) e ∙ rowed s
+refusal-unique r s e = sym (rowed r .fixed) ∙ ap (λ c. unnumber (numberOf c) (positionOf c)) e ∙ rowed s .fixed
 
 -- something that is given is no refusal
 pub gives-refusal : {A : Type 0} (a : A) (r : Refusal) → gives a ≡ refusalTells r → ⊥

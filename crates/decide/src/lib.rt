@@ -30,7 +30,8 @@ fn clear(taken: &mut [u8], k: usize)
 // Checks the table and what is lent for its settlement, and decides every round. The order places are only counted. The taken bytes of the
 // records serve as work space and are 0 then. A refusal changes no lent byte.
 pub fn decide(n: u8, table: &[u8], cells: &mut [u32], order: &[u32], taken: &mut [u8]) -> Checked
-    ensures { λ r. ⌜ DecidesTo n (now (table .entry)) (lent (now (cells .entry)) (now (order .entry)) (now (taken .entry))) r (now (cells .exit)) (now (taken .exit)) ⌝ }
+    ensures { λ r. ⌜ DecidesTo n (now (table .entry))
+        (lent (now (cells .entry)) (now (order .entry)) (now (taken .entry))) r (now (cells .exit)) (now (taken .exit)) ⌝ }
 {
     let c = table::check(n, table);
     match c {

@@ -89,7 +89,8 @@ fn through_anchor(n: u8, table: &[u8], round: u32, a: usize, walk: Walk, work: &
 fn by_anchor(n: u8, table: &[u8], round: u32, cells: &[u32], walk: Walk, work: &mut [u8]) -> Round
     requires { ⌜ InHand (boxSetting n) first n (now table) round (now cells) (walk .anchor) (walk .done) (now work) ⌝ }
     ensures { λ r. ⌜ InCell references (verticesOf (now (table .entry)))
-        (indirect (boxSetting n) n (verticesOf (now (table .entry))) (round - 1) (anchor (drop (round + 2) (decisions (boxSetting n) n (verticesOf (now (table .entry)))))))
+        (indirect (boxSetting n) n (verticesOf (now (table .entry))) (round - 1)
+        (anchor (drop (round + 2) (decisions (boxSetting n) n (verticesOf (now (table .entry)))))))
         (now (work .entry)) (r .cell) (r .walk .anchor) (r .walk .done) (now (work .exit)) ⌝ }
 {
     let top = highest_of(table);

@@ -1,5 +1,5 @@
--- What an export gives for what its call tells: document 01's number and position, 0 and 0 where nothing is refused; for a lookup where the part begins and how long it is;
--- for a settlement its counts too, all 0 on a refusal, and what the lent buffers hold then.
+-- What an export gives for what its call tells: document 01's number and position, 0 and 0 where nothing is refused; for a lookup where
+-- the part begins and how long it is; for a settlement its counts too, all 0 on a refusal, and what the lent buffers hold then.
 -- Assumes nothing.
 use Prim.Native.Nat.{ℕ}
 use mathlib.Core.Path.{_≡_}

@@ -166,7 +166,9 @@ pub extern "C" fn record_box_settle(
     order: &mut [u32],
     taken: &mut [u8],
 ) -> SettledNumbers
-    ensures { λ r. ⌜ SettlesAs n (now (table .entry)) (lent (now (cells .entry)) (now (order .entry)) (now (taken .entry))) r (lent (now (cells .exit)) (now (order .exit)) (now (taken .exit))) ⌝ }
+    ensures { λ r. ⌜ SettlesAs n (now (table .entry))
+        (lent (now (cells .entry)) (now (order .entry)) (now (taken .entry))) r
+        (lent (now (cells .exit)) (now (order .exit)) (now (taken .exit))) ⌝ }
 {
     let s = settlement::settle(n, table, cells, order, taken);
     let o = s.outcome;

@@ -18,20 +18,20 @@ use Rattle.folds.proofs.Tests.{by-test, not-both, failed, or-cases, or-
 pub any-witness : (p : ℕ → Bool) (k : ℕ) → anyTo p k ≡ true → (i : ℕ) × (i < k) × (p i ≡ true)
 unfolding anyTo
 any-witness p zero e = absurd (false≢true e)
-any-witness p (suc k) e = go (λ h. any-witness p k h) (or-cases (anyTo p k) (p k) e)
+any-witness p (suc k) e = last-or-before (λ h. any-witness p k h) (or-cases (anyTo p k) (p k) e)
   where
-    go : (anyTo p k ≡ true → (i : ℕ) × (i < k) × (p i ≡ true)) → (anyTo p k ≡ true) ⊎ (p k ≡ true) → (i : ℕ) × (i < suc k) × (p i ≡ true)
-    go rest (inl h) = let r = rest h in (r .0, le-step (r .1), r .2)
-    go rest (inr h) = (k, le-refl (suc k), h)
+    last-or-before : (anyTo p k ≡ true → (i : ℕ) × (i < k) × (p i ≡ true)) → (anyTo p k ≡ true) ⊎ (p k ≡ true) → (i : ℕ) × (i < suc k) × (p i ≡ true)
+    last-or-before rest (inl h) = let r = rest h in (r .0, le-step (r .1), r .2)
+    last-or-before rest (inr h) = (k, le-refl (suc k), h)
 
 pub any-intro : (p : ℕ → Bool) (k i : ℕ) → i < k → p i ≡ true → anyTo p k ≡ true
 unfolding anyTo
 any-intro p zero i l e = absurd (not-suc-le-zero l)
-any-intro p (suc k) i l e = go (λ h. any-intro p k i h e) (eq-or-lt-of-le (le-of-suc-le-suc l))
+any-intro p (suc k) i l e = here-or-before (λ h. any-intro p k i h e) (eq-or-lt-of-le (le-of-suc-le-suc l))
   where
-    go : (i < k → anyTo p k ≡ true) → (i ≡ k) ⊎ (i < k) → anyTo p k or p k ≡ true
-    go rest (inl q) = or-right (anyTo p k) (p k) (subst (λ (m : ℕ). p m ≡ true) q e)
-    go rest (inr h) = or-left (anyTo p k) (p k) (rest h)
+    here-or-before : (i < k → anyTo p k ≡ true) → (i ≡ k) ⊎ (i < k) → anyTo p k or p k ≡ true
+    here-or-before rest (inl q) = or-right (anyTo p k) (p k) (subst (λ (m : ℕ). p m ≡ true) q e)
+    here-or-before rest (inr h) = or-left (anyTo p k) (p k) (rest h)
 
 pub any-none : (p : ℕ → Bool) (k : ℕ) → anyTo p k ≡ false → (i : ℕ) → i < k → p i ≡ false
 any-none p k e i l = failed (p i) (λ h. not-both (any-intro p k i l h) e)
@@ -134,11 +134,11 @@ count-low p (suc k) = omega (arith, bit-low (p k), count-low p k)
 pub count-witness : (p : ℕ → Bool) (n : ℕ) → 0 < countTo p n → (i : ℕ) × (i < n) × (p i ≡ true)
 unfolding countTo
 count-witness p zero h = absurd (not-suc-le-zero h)
-count-witness p (suc n) h = go (λ k. count-witness p n k) (p n) refl h
+count-witness p (suc n) h = by-last (λ k. count-witness p n k) (p n) refl h
   where
-    go : (0 < countTo p n → (i : ℕ) × (i < n) × (p i ≡ true)) → (b : Bool) → p n ≡ b → 0 < countTo p n + bit b → (i : ℕ) × (i < suc n) × (p i ≡ true)
-    go rest true e l = (n, le-refl (suc n), e)
-    go rest false e l = let r = rest (omega arith) in (r .0, le-step (r .1), r .2)
+    by-last : (0 < countTo p n → (i : ℕ) × (i < n) × (p i ≡ true)) → (b : Bool) → p n ≡ b → 0 < countTo p n + bit b → (i : ℕ) × (i < suc n) × (p i ≡ true)
+    by-last rest true e l = (n, le-refl (suc n), e)
+    by-last rest false e l = let r = rest (omega arith) in (r .0, le-step (r .1), r .2)
 
 bit-and : (a b : Bool) → bit a + bit b ≤ 1 + bit (a and b)
 unfolding _and_

@@ -32,11 +32,11 @@ length-tabulate f (suc k) = length-append (tabulate f k) (f k ∷ []) ∙ ap (λ
 pub getD-tabulate {ℓ} : {A : Type ℓ} (f : ℕ → A) (k i : ℕ) (d : A) → i < k → getD (tabulate f k) i d ≡ f i
 unfolding tabulate
 getD-tabulate f zero i d l = absurd (not-suc-le-zero l)
-getD-tabulate {A = A} f (suc k) i d l = go (λ h. getD-tabulate f k i d h) (eq-or-lt-of-le (le-of-suc-le-suc l))
+getD-tabulate {A = A} f (suc k) i d l = last-or-before (λ h. getD-tabulate f k i d h) (eq-or-lt-of-le (le-of-suc-le-suc l))
   where
-    go : (i < k → getD (tabulate f k) i d ≡ f i) → (i ≡ k) ⊎ (i < k) → getD (tabulate f k ++ f k ∷ []) i d ≡ f i
-    go rest (inl e) = getD-at (tabulate f k) (f k) [] d i (length-tabulate f k ∙ sym e) ∙ ap f (sym e)
-    go rest (inr h) = List·getD-append (tabulate f k) (f k ∷ []) d i (rw length-tabulate h) ∙ rest h
+    last-or-before : (i < k → getD (tabulate f k) i d ≡ f i) → (i ≡ k) ⊎ (i < k) → getD (tabulate f k ++ f k ∷ []) i d ≡ f i
+    last-or-before rest (inl e) = getD-at (tabulate f k) (f k) [] d i (length-tabulate f k ∙ sym e) ∙ ap f (sym e)
+    last-or-before rest (inr h) = List·getD-append (tabulate f k) (f k ∷ []) d i (rw length-tabulate h) ∙ rest h
 
 pub tabulate-same {ℓ} : {A : Type ℓ} (f g : ℕ → A) (k : ℕ) → ((i : ℕ) → i < k → f i ≡ g i) → tabulate f k ≡ tabulate g k
 unfolding tabulate
@@ -80,21 +80,21 @@ last-listed false k x m = absurd (List·Memᴰ·not-nil m)
 pub filter-sound : (p : ℕ → Bool) (k x : ℕ) → List·Memᴰ x (filterTo p k) → (x < k) × (p x ≡ true)
 unfolding filterTo
 filter-sound p zero x m = absurd (List·Memᴰ·not-nil m)
-filter-sound p (suc k) x m = go (λ h. filter-sound p k x h) (List·Memᴰ·append-cases (filterTo p k) m)
+filter-sound p (suc k) x m = in-last-or-before (λ h. filter-sound p k x h) (List·Memᴰ·append-cases (filterTo p k) m)
   where
-    go : (List·Memᴰ x (filterTo p k) → (x < k) × (p x ≡ true)) → List·Memᴰ x (filterTo p k) ⊎ List·Memᴰ x (cond (p k) (k ∷ []) []) → (x < suc k) × (p x ≡ true)
-    go rest (inl h) = let r = rest h in (le-step (r .0), r .1)
-    go rest (inr h) = let r = last-listed (p k) k x h in (rw (r .1) (le-refl (suc k)), rw (r .1) (r .0))
+    in-last-or-before : (List·Memᴰ x (filterTo p k) → (x < k) × (p x ≡ true)) → List·Memᴰ x (filterTo p k) ⊎ List·Memᴰ x (cond (p k) (k ∷ []) []) → (x < suc k) × (p x ≡ true)
+    in-last-or-before rest (inl h) = let r = rest h in (le-step (r .0), r .1)
+    in-last-or-before rest (inr h) = let r = last-listed (p k) k x h in (rw (r .1) (le-refl (suc k)), rw (r .1) (r .0))
 
 -- what is below the bound and passes is listed
 pub filter-complete : (p : ℕ → Bool) (k x : ℕ) → x < k → p x ≡ true → List·Memᴰ x (filterTo p k)
 unfolding filterTo
 filter-complete p zero x l e = absurd (not-suc-le-zero l)
-filter-complete p (suc k) x l e = go (λ h. filter-complete p k x h e) (eq-or-lt-of-le (le-of-suc-le-suc l))
+filter-complete p (suc k) x l e = kept-or-last (λ h. filter-complete p k x h e) (eq-or-lt-of-le (le-of-suc-le-suc l))
   where
-    go : (x < k → List·Memᴰ x (filterTo p k)) → (x ≡ k) ⊎ (x < k) → List·Memᴰ x (filterTo p k ++ cond (p k) (k ∷ []) [])
-    go rest (inl q) = let t : p k ≡ true = rw q at e in rw t (Memᴰ·append-right (filterTo p k) (List·Memᴰ·head q))
-    go rest (inr h) = Memᴰ·append-left _ (rest h)
+    kept-or-last : (x < k → List·Memᴰ x (filterTo p k)) → (x ≡ k) ⊎ (x < k) → List·Memᴰ x (filterTo p k ++ cond (p k) (k ∷ []) [])
+    kept-or-last rest (inl q) = let t : p k ≡ true = rw q at e in rw t (Memᴰ·append-right (filterTo p k) (List·Memᴰ·head q))
+    kept-or-last rest (inr h) = Memᴰ·append-left _ (rest h)
 
 -- ---- member
 

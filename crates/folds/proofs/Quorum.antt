@@ -22,10 +22,10 @@ pub meet : (n f : ℕ) (P Q : ℕ → Type 0) (faulty : ℕ → Bool) → n ≡ 
     → Shared n P Q faulty
 meet n f P Q faulty is few k l =
     let both : ℕ → Bool = λ i. k .who i and l .who i in
-    go (count-witness (λ i. both i and not (faulty i)) n (omega (arith, count-and (k .who) (l .who) n, count-minus both faulty n)))
+    shared (count-witness (λ i. both i and not (faulty i)) n (omega (arith, count-and (k .who) (l .who) n, count-minus both faulty n)))
   where
-    go : (a : ℕ) × (a < n) × ((k .who a and l .who a) and not (faulty a) ≡ true) → Shared n P Q faulty
-    go (a, h, t) =
+    shared : (a : ℕ) × (a < n) × ((k .who a and l .who a) and not (faulty a) ≡ true) → Shared n P Q faulty
+    shared (a, h, t) =
         let both = and-left _ _ t in
         record { who = a; low = h; honest = not-true _ (and-right _ _ t); left = k .have a h (and-left _ _ both); right = l .have a h (and-right _ _ both) }
 

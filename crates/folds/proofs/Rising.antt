@@ -49,11 +49,11 @@ pub filter-rising : {A : Type 0} (R : A → A → Type 0) (f : ℕ → A) (p : �
     → Rising R (map f (filterTo p k))
 unfolding filterTo Rising
 filter-rising R f p zero h = tt
-filter-rising {A} R f p (suc k) h = go (filter-rising R f p k (λ i j l l′. h i j l (le-step l′))) (p k)
+filter-rising {A} R f p (suc k) h = one-more (filter-rising R f p k (λ i j l l′. h i j l (le-step l′))) (p k)
   where
-    go : Rising R (map f (filterTo p k)) → (b : Bool) → Rising R (map f (filterTo p k ++ cond b (k ∷ []) []))
-    go r true = rw map-append (rising-last R (map f (filterTo p k)) (f k) r under)
+    one-more : Rising R (map f (filterTo p k)) → (b : Bool) → Rising R (map f (filterTo p k ++ cond b (k ∷ []) []))
+    one-more r true = rw map-append (rising-last R (map f (filterTo p k)) (f k) r under)
       where
         under : (y : A) → List·Memᴰ y (map f (filterTo p k)) → R y (f k)
         under y m = let o = Memᴰ·of-map f (filterTo p k) m in subst (λ z. R z (f k)) (o .2) (h (o .0) k (filter-sound p k (o .0) (o .1) .0) (le-refl (suc k)))
-    go r false = rw append-nil r
+    one-more r false = rw append-nil r

@@ -104,9 +104,9 @@ is-not-true {a} p = rw p
 
 -- one of two numbers is below the other, or they are equal
 pub compare : (m n : ℕ) → (m < n) ⊎ ((m ≡ n) ⊎ (n < m))
-compare m n = go (ltb m n) refl (ltb n m) refl
+compare m n = by-both (ltb m n) refl (ltb n m) refl
   where
-    go : (a : Bool) → ltb m n ≡ a → (b : Bool) → ltb n m ≡ b → (m < n) ⊎ ((m ≡ n) ⊎ (n < m))
-    go true e b e′ = inl (ltb-true m n e)
-    go false e true e′ = inr (inr (ltb-true n m e′))
-    go false e false e′ = inr (inl (omega (arith, ltb-false m n e, ltb-false n m e′)))
+    by-both : (a : Bool) → ltb m n ≡ a → (b : Bool) → ltb n m ≡ b → (m < n) ⊎ ((m ≡ n) ⊎ (n < m))
+    by-both true e b e′ = inl (ltb-true m n e)
+    by-both false e true e′ = inr (inr (ltb-true n m e′))
+    by-both false e false e′ = inr (inl (omega (arith, ltb-false m n e, ltb-false n m e′)))

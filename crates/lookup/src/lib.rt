@@ -37,7 +37,9 @@ pub fn stands_at(n: u8, table: &[u8], x: Name) -> Standing
 
 // The caller's own bytes of the record of that name, or the first zero bytes of the table.
 pub fn lookup<'a>(n: u8, table: &'a [u8], round: u32, author: u8, mark: u32) -> &'a [u8]
-    ensures { λ r. ⌜ PartOf (table .entry) r (lookupBegin first n (now (table .entry)) (named round author mark)) (lookupLength first n (now (table .entry)) (named round author mark)) ⌝ }
+    ensures { λ r. ⌜ PartOf (table .entry) r
+        (lookupBegin first n (now (table .entry)) (named round author mark))
+        (lookupLength first n (now (table .entry)) (named round author mark)) ⌝ }
 {
     let s = stands_at(
         n,

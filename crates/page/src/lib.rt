@@ -12,7 +12,8 @@ pub fn output_page(
     order: &[u32],
     out: &mut [u8],
 ) -> usize
-    ensures { λ r. ⌜ OutputPage (outcomeTells (s .outcome)) (now (table .entry)) (now (cells .entry)) (now (order .entry)) (now (out .entry)) (now (out .exit)) r ⌝ }
+    ensures { λ r. ⌜ OutputPage (outcomeTells (s .outcome)) (now (table .entry)) (now (cells .entry)) (now (order .entry))
+        (now (out .entry)) (now (out .exit)) r ⌝ }
     ensures { λ r. ⌜ Counts r (now (out .exit)) ⌝ }
 {
     let lines = report::output_lines(s);

@@ -43,7 +43,9 @@ fn table_of(input: &[u8]) -> &[u8]
 
 // 12 before all else: the input is longer than the program holds. No byte at all counts as n = 0.
 fn answer(input: &[u8], cells: &mut [u32], order: &mut [u32], taken: &mut [u8]) -> Settlement
-    ensures { λ r. ⌜ Answers (now (input .entry)) (lent (now (cells .entry)) (now (order .entry)) (now (taken .entry))) r (lent (now (cells .exit)) (now (order .exit)) (now (taken .exit))) ⌝ }
+    ensures { λ r. ⌜ Answers (now (input .entry))
+        (lent (now (cells .entry)) (now (order .entry)) (now (taken .entry))) r
+        (lent (now (cells .exit)) (now (order .exit)) (now (taken .exit))) ⌝ }
 {
     if HOLDS < input.len() {
         return Settlement {

@@ -80,7 +80,8 @@ pub fn output_line(
     i: usize,
     out: &mut [u8],
 ) -> usize
-    ensures { λ k. ⌜ Fills (outputLine (outcomeTells (s .outcome)) (now (table .entry)) (now (cells .entry)) (now (order .entry)) i) (now (out .entry)) (now (out .exit)) k ⌝ }
+    ensures { λ k. ⌜ Fills (outputLine (outcomeTells (s .outcome)) (now (table .entry)) (now (cells .entry)) (now (order .entry)) i)
+        (now (out .entry)) (now (out .exit)) k ⌝ }
 {
     let o = s.outcome;
     match o {

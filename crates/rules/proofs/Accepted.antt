@@ -199,10 +199,10 @@ module _ {n : ℕ} {vs : List Vertex} (A : Accepted n vs) where
   populated r pos h = by-test (ltb (pred (length vs)) (length vs)) some-record (λ e. absurd (none (ltb-false _ _ e)))
     where
       some-record : ltb (pred (length vs)) (length vs) ≡ true → Many n (quorum n) (Present r)
-      some-record e = go (vertex-in (at vs (pred (length vs)) .round - (r + 1)) (r + 1) (pred (length vs)) (ltb-true _ _ e) (omega arith) (omega arith))
+      some-record e = one-above (vertex-in (at vs (pred (length vs)) .round - (r + 1)) (r + 1) (pred (length vs)) (ltb-true _ _ e) (omega arith) (omega arith))
         where
-          go : (q : ℕ) × (q < length vs) × (at vs q .round ≡ r + 1) → Many n (quorum n) (Present r)
-          go (q, lq, eq) = present r q lq pos eq
+          one-above : (q : ℕ) × (q < length vs) × (at vs q .round ≡ r + 1) → Many n (quorum n) (Present r)
+          one-above (q, lq, eq) = present r q lq pos eq
 
       none : length vs ≤ pred (length vs) → ⊥
       none l = let zero : at vs (pred (length vs)) .round ≡ 0 = ap (λ (v : Vertex). v .round) (List·getD-eq-default vs noVertex l) in omega arith

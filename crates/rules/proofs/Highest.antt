@@ -44,41 +44,41 @@ module _ {n : ℕ} {vs : List Vertex} (A : Accepted n vs) where
 
   -- a direct commit has a vertex two rounds up, a direct skip one round up
   commit-up : (b : Vertex) → directCommit n vs b ≡ true → b .round + 2 ≤ highest vs
-  commit-up b e = go (some-of n (quorum n) _ (omega arith) (commit-is n vs b e))
+  commit-up b e = two-up (some-of n (quorum n) _ (omega arith) (commit-is n vs b e))
     where
-      go : (a : ℕ) × (a < n) × Has vs (λ w. certifies n vs w b) a → b .round + 2 ≤ highest vs
-      go (a, la, (p, l, ea, t)) = omega (arith, highest-most p l, certifies-is n vs (at vs p) b t .two-up)
+      two-up : (a : ℕ) × (a < n) × Has vs (λ w. certifies n vs w b) a → b .round + 2 ≤ highest vs
+      two-up (a, la, (p, l, ea, t)) = omega (arith, highest-most p l, certifies-is n vs (at vs p) b t .two-up)
 
   skip-up : (r leader : ℕ) → directSkip n vs r leader ≡ true → r + 1 ≤ highest vs
-  skip-up r leader e = go (some-of n (quorum n) _ (omega arith) (skip-is n vs r leader e))
+  skip-up r leader e = one-up (some-of n (quorum n) _ (omega arith) (skip-is n vs r leader e))
     where
-      go : (a : ℕ) × (a < n) × Has vs (λ w. blank w r leader) a → r + 1 ≤ highest vs
-      go (a, la, (p, l, ea, t)) = omega (arith, highest-most p l, blank-is (at vs p) r leader t .one-up)
+      one-up : (a : ℕ) × (a < n) × Has vs (λ w. blank w r leader) a → r + 1 ≤ highest vs
+      one-up (a, la, (p, l, ea, t)) = omega (arith, highest-most p l, blank-is (at vs p) r leader t .one-up)
 
   abbrev rounds : List (Decision ℕ)
   rounds = decisions (boxSetting n) n vs
 
   -- a round that is committed has records two rounds up
   pub committed-up : (s p : ℕ) → decisionAt rounds s ≡ committed p → s + 3 ≤ highest vs
-  committed-up s p e = go (because (boxSetting n) (one-later n) A s)
+  committed-up s p e = three-up (because (boxSetting n) (one-later n) A s)
     where
-      go : Because (boxSetting n) n vs s (decisionAt rounds s) → s + 3 ≤ highest vs
-      go (direct q l i c m k) = omega (arith, commit-up (at vs q) c, slot-is (oneLeader n) s (at vs q) i .at-round)
-      go (skips none b k) = absurd (skipped-apart e k)
-      go (blocked none t l f g k) = absurd (committed-decided e k)
-      go (past h k) = absurd (committed-decided e k)
-      go (through none t a l f g k) = by-test (leb (highest vs) t) (λ h. absurd (committed-decided g (decisions-past (boxSetting n) n vs t (leb-true _ _ h)))) (λ h. omega (arith, leb-false (highest vs) t h))
+      three-up : Because (boxSetting n) n vs s (decisionAt rounds s) → s + 3 ≤ highest vs
+      three-up (direct q l i c m k) = omega (arith, commit-up (at vs q) c, slot-is (oneLeader n) s (at vs q) i .at-round)
+      three-up (skips none b k) = absurd (skipped-apart e k)
+      three-up (blocked none t l f g k) = absurd (committed-decided e k)
+      three-up (past h k) = absurd (committed-decided e k)
+      three-up (through none t a l f g k) = by-test (leb (highest vs) t) (λ h. absurd (committed-decided g (decisions-past (boxSetting n) n vs t (leb-true _ _ h)))) (λ h. omega (arith, leb-false (highest vs) t h))
 
   -- a round that is decided has records one round up
   pub decided-up : (s : ℕ) → (decisionAt rounds s ≡ undecided → ⊥) → s + 2 ≤ highest vs
-  decided-up s h = go (because (boxSetting n) (one-later n) A s)
+  decided-up s h = not-highest (because (boxSetting n) (one-later n) A s)
     where
-      go : Because (boxSetting n) n vs s (decisionAt rounds s) → s + 2 ≤ highest vs
-      go (direct q l i c m k) = omega (arith, committed-up s q k)
-      go (skips none b k) = omega (arith, skip-up (s + 1) _ b)
-      go (blocked none t l f g k) = absurd (h k)
-      go (past o k) = absurd (h k)
-      go (through none t a l f g k) = omega (arith, committed-up t a g)
+      not-highest : Because (boxSetting n) n vs s (decisionAt rounds s) → s + 2 ≤ highest vs
+      not-highest (direct q l i c m k) = omega (arith, committed-up s q k)
+      not-highest (skips none b k) = omega (arith, skip-up (s + 1) _ b)
+      not-highest (blocked none t l f g k) = absurd (h k)
+      not-highest (past o k) = absurd (h k)
+      not-highest (through none t a l f g k) = omega (arith, committed-up t a g)
 
   -- the highest round is never decided
   pub highest-undecided : 0 < length vs → decisionAt rounds (highest vs - 1) ≡ undecided

@@ -39,10 +39,10 @@ module _ {n : ℕ} {vs : List Vertex} {step : StepRule} {Step : Name → Name �
   -- what is reached stands in the table, not after a
   pub reached-at : (a : ℕ) → a < length vs → (y : Name) → Reaches Step (nameOf (at vs a)) y → (q : ℕ) × (q ≤ a) × (nameOf (at vs q) ≡ y)
   reached-at a l y itself = (a, le-refl a, refl)
-  reached-at a l y (onward {x = x} h k) = go (reached-at a l x h)
+  reached-at a l y (onward {x = x} h k) = one-on (reached-at a l x h)
     where
-      go : (q : ℕ) × (q ≤ a) × (nameOf (at vs q) ≡ x) → (q : ℕ) × (q ≤ a) × (nameOf (at vs q) ≡ y)
-      go (q, lq, e) =
+      one-on : (q : ℕ) × (q ≤ a) × (nameOf (at vs q) ≡ x) → (q : ℕ) × (q ≤ a) × (nameOf (at vs q) ≡ y)
+      one-on (q, lq, e) =
           let r = F .fro q y (omega arith) (subst (λ z. Step z y) (sym e) k) in
           let d = down q y (omega arith) r in
           (find vs y, omega (arith, d), find-name vs y (omega (arith, d)))
@@ -51,10 +51,10 @@ module _ {n : ℕ} {vs : List Vertex} {step : StepRule} {Step : Name → Name �
   last-step : (a p : ℕ) → a < length vs → p < a → (y : Name) → Reaches Step (nameOf (at vs a)) y → nameOf (at vs p) ≡ y
       → (q : ℕ) × (p < q) × (q ≤ a) × ReachesAt a q × (step (at vs q) (nameOf (at vs p)) ≡ true)
   last-step a p l lp y itself e = absurd (omega (arith, sym (find-at A p (omega arith)) ∙ ap (find vs) e ∙ find-at A a l))
-  last-step a p l lp y (onward {x = x} h k) e = go (reached-at a l x h)
+  last-step a p l lp y (onward {x = x} h k) e = one-above (reached-at a l x h)
     where
-      go : (q : ℕ) × (q ≤ a) × (nameOf (at vs q) ≡ x) → (q : ℕ) × (p < q) × (q ≤ a) × ReachesAt a q × (step (at vs q) (nameOf (at vs p)) ≡ true)
-      go (q, lq, ex) =
+      one-above : (q : ℕ) × (q ≤ a) × (nameOf (at vs q) ≡ x) → (q : ℕ) × (p < q) × (q ≤ a) × ReachesAt a q × (step (at vs q) (nameOf (at vs p)) ≡ true)
+      one-above (q, lq, ex) =
           let r = F .fro q y (omega arith) (subst (λ z. Step z y) (sym ex) k) in
           let d = down q y (omega arith) r in
           let same : find vs y ≡ p = ap (find vs) (sym e) ∙ find-at A p (omega arith) in
@@ -79,20 +79,20 @@ module _ {n : ℕ} {vs : List Vertex} {step : StepRule} {Step : Name → Name �
       b = anyTo test (length h)
 
       told : b ≡ true → ReachesAt a p
-      told e = go (any-witness test (length h) e)
+      told e = found (any-witness test (length h) e)
         where
-          go : (j : ℕ) × (j < length h) × (test j ≡ true) → ReachesAt a p
-          go (j, lj, w) = onward (t .sound j lj (and-left _ _ w)) (F .to (suc p + j) _ (omega (arith, t .spans)) (and-right _ _ w))
+          found : (j : ℕ) × (j < length h) × (test j ≡ true) → ReachesAt a p
+          found (j, lj, w) = onward (t .sound j lj (and-left _ _ w)) (F .to (suc p + j) _ (omega (arith, t .spans)) (and-right _ _ w))
 
       sound : (j : ℕ) → j < length (b ∷ h) → getD (b ∷ h) j false ≡ true → ReachesAt a (p + j)
       sound zero lj e = rw add-zero (told e)
       sound (suc j) lj e = rw (add-suc, ← suc-add) (t .sound j (le-of-suc-le-suc lj) e)
 
       found : ReachesAt a p → b ≡ true
-      found r = go (last-step a p l (t .low) _ r refl)
+      found r = handed-on (last-step a p l (t .low) _ r refl)
         where
-          go : (q : ℕ) × (p < q) × (q ≤ a) × ReachesAt a q × (step (at vs q) (nameOf (at vs p)) ≡ true) → b ≡ true
-          go (q, lp, la, rq, e) =
+          handed-on : (q : ℕ) × (p < q) × (q ≤ a) × ReachesAt a q × (step (at vs q) (nameOf (at vs p)) ≡ true) → b ≡ true
+          handed-on (q, lp, la, rq, e) =
               let j : ℕ = q - suc p in
               let is : suc p + j ≡ q = omega arith in
               let lj : j < length h = omega (arith, t .spans) in

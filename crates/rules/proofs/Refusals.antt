@@ -68,12 +68,6 @@ unfolding _then_
 gives-refused (gives tt) a e = absurd (refused-gives e refl)
 gives-refused (refused j ws) a e = cc
 
--- what follows a check matters only where that is passed
-pub then-same : {A : Type 0} (c : Told (Unit {0})) (d d′ : Told A) → (c ≡ passed → d ≡ d′) → c then d ≡ c then d′
-unfolding _then_
-then-same (gives tt) d d′ h = h refl
-then-same (refused k vs) d d′ h = refl
-
 pub then-assoc : {A : Type 0} (b c : Told (Unit {0})) (d : Told A) → (b then c) then d ≡ b then c then d
 unfolding _then_
 then-assoc (gives tt) c d = refl

@@ -1,4 +1,5 @@
--- Document 01, "What the calls give": the lookup. It hands back the caller's own bytes for a name, or an empty part on any refusal; a second question gives the refusal.
+-- Document 01, "What the calls give": the lookup. It hands back the caller's own bytes for a name, or an empty part on any refusal;
+-- a second question gives the refusal.
 -- Assumes nothing.
 use Prim.Native.Nat.{ℕ, _*_}
 use mathlib.Core.List.{List}

@@ -27,7 +27,9 @@ pub fn settle(
     order: &mut [u32],
     taken: &mut [u8],
 ) -> Settlement
-    ensures { λ r. ⌜ SettlesTo n (now (table .entry)) (lent (now (cells .entry)) (now (order .entry)) (now (taken .entry))) r (lent (now (cells .exit)) (now (order .exit)) (now (taken .exit))) ⌝ }
+    ensures { λ r. ⌜ SettlesTo n (now (table .entry))
+        (lent (now (cells .entry)) (now (order .entry)) (now (taken .entry))) r
+        (lent (now (cells .exit)) (now (order .exit)) (now (taken .exit))) ⌝ }
 {
     let c = decide::decide(n, table, cells, order, taken);
     match c {

@@ -233,7 +233,8 @@ fn check_record(n: u8, table: &[u8], p: usize, v: Vertex) -> Checked
 // Records are taken by position from 0.
 fn check_records(n: u8, table: &[u8]) -> Checked
     requires { ⌜ isCount n ≡ true ⌝ }
-    ensures { λ r. ⌜ checkTells r ≡ eachTo (checkRecord first n (now (table .entry)) (vertices first (now (table .entry)))) (records first (now (table .entry))) ⌝ }
+    ensures { λ r. ⌜ checkTells r
+        ≡ eachTo (checkRecord first n (now (table .entry)) (vertices first (now (table .entry)))) (records first (now (table .entry))) ⌝ }
 {
     let k = records_of(table);
     let mut p: usize = 0;

@@ -21,7 +21,8 @@ use Rattle.rules.proofs.Support.{references-earlier}
 use Rattle.rules.proofs.History.{Downward}
 use Rattle.rules.proofs.Decide.{leads}
 use Rattle.agreement.specs.Agreement.{Premises, Begins, written, Agree, Demand3}
-use Rattle.agreement.proofs.World.{World, Geometry, one-leader}
+use Rattle.rules.proofs.Slots.{Geometry, one-leader}
+use Rattle.agreement.proofs.World.{World}
 use Rattle.agreement.proofs.Table.{TableIn, SkipLaw, setting, blank-law}
 use Rattle.agreement.proofs.Joint.{Together, one-in, other-in, alike-in}
 use Rattle.agreement.proofs.Prefix.{Ahead, orders}

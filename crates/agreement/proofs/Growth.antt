@@ -27,7 +27,8 @@ use Rattle.rules.proofs.Decide.{slot-is, Chosen, chosen, nobody, choose-is, dec
 use Rattle.rules.proofs.Highest.{highest-most}
 use Rattle.agreement.specs.Agreement.{Begins, written}
 use Rattle.agreement.proofs.Boxes.{Grows, grows}
-use Rattle.agreement.proofs.World.{World, Geometry, Certificate, boxOf, fit, pick-decided}
+use Rattle.rules.proofs.Slots.{Geometry}
+use Rattle.agreement.proofs.World.{World, Certificate, boxOf, fit, pick-decided}
 use Rattle.agreement.proofs.Table.{TableIn, Holds, SkipLaw, setting, certificate-is, is-certificate, Commit, view}
 use Rattle.agreement.proofs.Agreement.{orders-in}
 

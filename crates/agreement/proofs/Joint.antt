@@ -32,7 +32,8 @@ use Rattle.rules.proofs.History.{Downward}
 use Rattle.rules.proofs.Decisions.{tell-decided}
 use Rattle.rules.proofs.Decide.{decisions-past}
 use Rattle.agreement.specs.Agreement.{told}
-use Rattle.agreement.proofs.World.{World, Geometry, alike}
+use Rattle.rules.proofs.Slots.{Geometry}
+use Rattle.agreement.proofs.World.{World, alike}
 use Rattle.agreement.proofs.Table.{TableIn, Holds, SkipLaw, setting, view}
 
 -- ---- what a table brings to a world that shows it

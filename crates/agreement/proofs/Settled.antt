@@ -19,7 +19,7 @@ use Rattle.rules.proofs.Accepted.{Accepted}
 use Rattle.rules.proofs.Decisions.{committed-decided, skipped-decided}
 use Rattle.rules.proofs.Decide.{Chosen, chosen, nobody, choose-is, Because, direct, skips, through, blocked, past, because, past-stops}
 use Rattle.agreement.proofs.Boxes.{Why, by-commit, by-skip, by-anchor, by-nothing, Box, settled-below}
-use Rattle.agreement.proofs.World.{one-leader}
+use Rattle.rules.proofs.Slots.{one-leader}
 
 module _ (C : Setting) (later : (s : ℕ) → s < C .slots .start s) {n : ℕ} {vs : List Vertex} (A : Accepted n vs) where
   abbrev dec : ℕ → Decision ℕ

@@ -31,7 +31,8 @@ use Rattle.rules.proofs.Decide.{slot-is, is-slot, Chosen, chosen, nobody, choos
 use Rattle.agreement.specs.Agreement.{told}
 use Rattle.agreement.proofs.Boxes.{Why, by-commit, by-skip, by-anchor, by-nothing}
 use Rattle.agreement.proofs.World as world
-use Rattle.agreement.proofs.World.{World, Geometry, OfSlot, Supported, Certificate, Without, CertifiedBy, CertifiedIn, Picked, View}
+use Rattle.rules.proofs.Slots.{Geometry}
+use Rattle.agreement.proofs.World.{World, OfSlot, Supported, Certificate, Without, CertifiedBy, CertifiedIn, Picked, View}
 
 -- The vertices of a table stand in a world, and a step goes to an earlier record.
 pub record TableIn {n : ℕ} {step : StepRule} (W : World n step) (vs : List Vertex) : Type 0 where

@@ -14,27 +14,16 @@ use Rattle.folds.proofs.Tests.{not-both}
 use Rattle.folds.proofs.Quorum.{Shared, meet, some-of, many-map}
 use Rattle.rules.specs.declared.Name.{Name}
 use Rattle.rules.specs.declared.Vertex.{Vertex}
-use Rattle.rules.specs.Authors.{faults, quorum, Slots, oneLeader}
+use Rattle.rules.specs.Authors.{faults, quorum, Slots}
 use Rattle.rules.specs.Record.{nameOf, entry, entryName}
 use Rattle.rules.specs.Decision.{Decision, skipped, committed, Decided}
 use Rattle.rules.specs.Support.{references}
 use Rattle.rules.specs.History.{Reaches, itself, onward, StepRule}
+use Rattle.rules.proofs.Slots.{Geometry}
 use Rattle.rules.proofs.Names.{name-path}
 use Rattle.rules.proofs.Decisions.{committed-decided, skipped-decided}
 use Rattle.rules.proofs.Support.{references-is, is-references}
 use Rattle.agreement.proofs.Boxes.{Why, Box, Fit, Ends, agree}
-
--- ---- the slots
-
--- What the argument needs of the slots: a search starts after its own slot, and at least three rounds up; and the slots of the rounds up to r
--- are those below `upTo r`.
-pub record Geometry (S : Slots) : Type 0 where
-  pub later : (s : ℕ) → s < S .start s
-  pub three-up : (s t : ℕ) → S .start s ≤ t → S .roundOf s + 3 ≤ S .roundOf t
-  pub within : (s r : ℕ) → S .roundOf s ≤ r → s < S .upTo r
-
-pub one-leader : (n : ℕ) → Geometry (oneLeader n)
-one-leader n = record { later = λ s. omega arith; three-up = λ s t l. omega arith; within = λ s r l. omega arith }
 
 -- The name is that of a vertex of the slot.
 pub record OfSlot (S : Slots) (s : ℕ) (b : Name) : Type 0 where

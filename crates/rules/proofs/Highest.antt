@@ -21,14 +21,11 @@ use Rattle.rules.specs.Support.{certifies, directCommit, directSkip, bla
 use Rattle.rules.specs.Decide.{boxSetting, highest, decisions, decisionAt}
 use Rattle.rules.specs.Order.{firstUndecided}
 use Rattle.rules.proofs.Names.{below-round}
+use Rattle.rules.proofs.Slots.{one-leader}
 use Rattle.rules.proofs.Accepted.{Accepted, rising, round-pos}
 use Rattle.rules.proofs.Support.{Has, blank-is, certifies-is, commit-is, skip-is}
 use Rattle.rules.proofs.Decisions.{committed-decided, skipped-decided, skipped-apart}
 use Rattle.rules.proofs.Decide.{slot-is, Because, direct, skips, through, blocked, past, because, decisions-past, decisions-length}
-
--- document 01's search starts after the slot
-pub one-later : (n s : ℕ) → s < oneLeader n .start s
-one-later n s = omega arith
 
 module _ {n : ℕ} {vs : List Vertex} (A : Accepted n vs) where
   -- no record is above the highest round
@@ -60,7 +57,7 @@ module _ {n : ℕ} {vs : List Vertex} (A : Accepted n vs) where
 
   -- a round that is committed has records two rounds up
   pub committed-up : (s p : ℕ) → decisionAt rounds s ≡ committed p → s + 3 ≤ highest vs
-  committed-up s p e = three-up (because (boxSetting n) (one-later n) A s)
+  committed-up s p e = three-up (because (boxSetting n) (one-leader n .later) A s)
     where
       three-up : Because (boxSetting n) n vs s (decisionAt rounds s) → s + 3 ≤ highest vs
       three-up (direct q l i c m k) = omega (arith, commit-up (at vs q) c, slot-is (oneLeader n) s (at vs q) i .at-round)
@@ -71,7 +68,7 @@ module _ {n : ℕ} {vs : List Vertex} (A : Accepted n vs) where
 
   -- a round that is decided has records one round up
   pub decided-up : (s : ℕ) → (decisionAt rounds s ≡ undecided → ⊥) → s + 2 ≤ highest vs
-  decided-up s h = not-highest (because (boxSetting n) (one-later n) A s)
+  decided-up s h = not-highest (because (boxSetting n) (one-leader n .later) A s)
     where
       not-highest : Because (boxSetting n) n vs s (decisionAt rounds s) → s + 2 ≤ highest vs
       not-highest (direct q l i c m k) = omega (arith, committed-up s q k)
@@ -82,7 +79,7 @@ module _ {n : ℕ} {vs : List Vertex} (A : Accepted n vs) where
 
   -- the highest round is never decided
   pub highest-undecided : 0 < length vs → decisionAt rounds (highest vs - 1) ≡ undecided
-  highest-undecided h = open-or (because (boxSetting n) (one-later n) A (highest vs - 1)) refl
+  highest-undecided h = open-or (because (boxSetting n) (one-leader n .later) A (highest vs - 1)) refl
     where
       open-or : {d : Decision ℕ} → Because (boxSetting n) n vs (highest vs - 1) d → d ≡ decisionAt rounds (highest vs - 1) → d ≡ undecided
       open-or (blocked none t l f g k) e = k

@@ -1,4 +1,5 @@
 pub mod Names
+pub mod Slots
 pub mod Refusals
 pub mod Records
 pub mod Accepted

@@ -27,7 +27,8 @@ use Rattle.rules.proofs.Support.{references-earlier}
 use Rattle.rules.proofs.History.{Downward, follows, reached-at, history-length, history-sound, history-complete, history-is}
 use Rattle.rules.proofs.Decisions.{skipped-apart, committed-decided, skipped-decided, committed-same}
 use Rattle.rules.proofs.Decide.{leads}
-use Rattle.rules.proofs.Highest.{one-later, highest-most, first-undecided-low}
+use Rattle.rules.proofs.Slots.{one-leader}
+use Rattle.rules.proofs.Highest.{highest-most, first-undecided-low}
 use Rattle.rules.proofs.Places.{place-in, in-place, Placed, Ordered, ordered-append, filter-ordered, ordered-same}
 
 -- ---- shares
@@ -303,7 +304,7 @@ order-has {n} {vs} A = record {
 }
   where
     all : Written references vs (decisions (boxSetting n) n vs) (order (boxSetting n) n vs)
-    all = order-written (boxSetting n) (one-later n) A (references-earlier A)
+    all = order-written (boxSetting n) (one-leader n .later) A (references-earlier A)
 
 pub demand-2-order : Demand2Order
 demand-2-order n t e = order-has (accepted first n t e)

@@ -26,7 +26,7 @@ use Rattle.rules.specs.Order.{notYet, writeFrom, order}
 use Rattle.rules.specs.Settlement.{writtenOver, takenBytes}
 use Rattle.rules.proofs.Accepted.{Accepted}
 use Rattle.rules.proofs.Decide.{decisions-length, leads}
-use Rattle.rules.proofs.Highest.{one-later}
+use Rattle.rules.proofs.Slots.{one-leader}
 use Rattle.settlement.specs.Write.{placesOver, written, WrittenSoFar, fresh, Led, Ordered}
 use Rattle.decide.proofs.Marked.{Walks, history-size, history-past, history-low, history-step}
 use Rattle.folds.proofs.Over.{over-at, over-length, over-same, over-over, over-none}
@@ -301,4 +301,4 @@ slot-low n vs l = rw (decisions-length (boxSetting n) n vs) l
 
 pub cell-leader : {n : ℕ} {vs : List Vertex} → Accepted n vs → (s c : ℕ) → c ≡ cell (decisionAt (decisions (boxSetting n) n vs) s) → c ≢ 0 → c ≢ 1
     → (decisionAt (decisions (boxSetting n) n vs) s ≡ committed (c - 2)) × (c - 2 < length vs)
-cell-leader {n} {vs} A s c e z o = let d = cell-committed _ c e z o in (d, leads (boxSetting n) (one-later n) A s (c - 2) d .0)
+cell-leader {n} {vs} A s c e z o = let d = cell-committed _ c e z o in (d, leads (boxSetting n) (one-leader n .later) A s (c - 2) d .0)

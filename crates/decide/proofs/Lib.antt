@@ -6,7 +6,7 @@ pub mod Commits
 pub mod Marked
 pub mod Sweeps
 pub mod Members
-pub mod Stops
 pub mod InCells
+pub mod Anchors
 pub mod Decided
 pub mod Unique

@@ -131,6 +131,6 @@ module _ {n : ℕ} {vs : List Vertex} {step : StepRule} (A : Accepted n vs) (W :
         before : (q : ℕ) → q < length vs → eqb (historyAt m q) 1 ≡ markedFrom step vs a (suc p) q
         before q lq = ap (λ x. eqb x 1) (S .told q lq) ∙ bit-one _
 
-  -- other tags are the same history
-  pub swept-retagged : (p : ℕ) (m m′ : List ℕ) → Retagged m m′ → Swept step vs a p m → Swept step vs a p m′
-  swept-retagged p m m′ r S = record { within = S .within; low = S .low; told = λ q lq. r .history-kept q ∙ S .told q lq }
+-- other tags are the same history
+pub swept-retagged : {step : StepRule} {vs : List Vertex} {a p : ℕ} {m m′ : List ℕ} → Retagged m m′ → Swept step vs a p m → Swept step vs a p m′
+swept-retagged r S = record { within = S .within; low = S .low; told = λ q lq. r .history-kept q ∙ S .told q lq }

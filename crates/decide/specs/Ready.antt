@@ -34,5 +34,5 @@ pub record Ready (E : Edition) (n : ℕ) (t work : List ℕ) : Type 0 where
 
 -- The cells from slot s on hold the decisions of their slots.
 pub record DecidedFrom (C : Setting) (n : ℕ) (vs : List Vertex) (s : ℕ) (cells : List ℕ) : Type 0 where
-  pub slots : highest vs ≤ length cells
-  pub held : (u : ℕ) → s ≤ u → u < highest vs → getD cells u 0 ≡ cell (decisionAt (decisions C n vs) u)
+  pub slots : C .slots .upTo (highest vs) ≤ length cells
+  pub held : (u : ℕ) → s ≤ u → u < C .slots .upTo (highest vs) → getD cells u 0 ≡ cell (decisionAt (decisions C n vs) u)

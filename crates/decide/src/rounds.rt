@@ -1,25 +1,25 @@
 // The decision of every round, from the highest down, in the cells.
 ghost use mathlib.Core.Path.{_≡_};
-ghost use mathlib.Core.Bool.{cond};
 ghost use mathlib.Core.List.{map};
-ghost use Prim.Native.Nat.{_+_, _-_, _≤_, _<_};
-ghost use lib.Dec.{ltb};
-ghost use lib.ListN.{length, drop};
+ghost use Prim.Native.Nat.{_-_, _≤_, _<_};
+ghost use lib.ListN.{length};
 ghost use Rattle.rules.specs.Authors.{leader};
 ghost use Rattle.rules.specs.Record.{first};
 ghost use Rattle.rules.specs.Decision.{cell};
 ghost use Rattle.rules.specs.Support.{references};
-ghost use Rattle.rules.specs.Decide.{boxSetting, highest, anchor, indirect, decisions, decisionAt, throughAnchor};
+ghost use Rattle.rules.specs.Decide.{boxSetting, highest, decisions, decisionAt, throughAnchor};
 ghost use Rattle.rules.specs.Settlement.{writtenOver};
-ghost use Rattle.decide.specs.Ready.{verticesOf, lastRound, Ready};
-ghost use Rattle.decide.specs.Cells.{stopAt, InHand, AtAnchor, InCell};
-use crate::direct::direct_commit;
-use crate::direct::direct_skip;
+ghost use Rattle.decide.specs.Ready.{verticesOf, Ready};
+ghost use Rattle.decide.specs.Cells.{indirectly, InHand, AtAnchor, InCell};
+use crate::direct::cell_of;
+use crate::direct::directly;
 use crate::history::Walk;
 use crate::history::certified_in;
 use crate::history::walk_to;
 use crate::range::begin;
 use search::highest_of;
+use stops::cell_at;
+use stops::stop_at;
 
 // A round's cell, and how far the history of an anchor is marked then.
 pub(crate) struct Round {
@@ -33,38 +33,6 @@ fn leader_of(n: u8, round: u32) -> u8
     ensures { λ r. ⌜ r ≡ leader n round ⌝ }
 {
     ((round - 1) % n as u32) as u8
-}
-
-// The round at which the indirect search for a round's anchor stops: from three rounds up, the first that isn't skipped, or the one past
-// the highest.
-fn stop_at(cells: &[u32], round: u32, top: u32) -> u32
-    requires { ⌜ round ≤ lastRound ⌝ }
-    requires { ⌜ top ≤ lastRound ⌝ }
-    requires { ⌜ top ≤ length (now cells) ⌝ }
-    ensures { λ r. ⌜ r ≡ 1 + stopAt (now (cells .entry)) (round + 2) top ⌝ }
-{
-    let mut t = round + 3;
-    let stop = loop {
-        if top < t {
-            break 1 + top;
-        }
-        if cells[t as usize - 1] != 1 {
-            break t;
-        }
-        t += 1;
-    };
-    stop
-}
-
-// The cell of a round committed with the vertex at p, where p is a position, and else `other`.
-fn cell_of(p: usize, k: usize, other: u32) -> u32
-    requires { ⌜ k ≤ 4096 ⌝ }
-    ensures { λ r. ⌜ r ≡ cond (ltb p k) (2 + p) other ⌝ }
-{
-    if p < k {
-        return 2 + p as u32;
-    }
-    other
 }
 
 // The round through its anchor, the vertex at a.
@@ -87,18 +55,18 @@ fn through_anchor(n: u8, table: &[u8], round: u32, a: usize, walk: Walk, work: &
 
 // One round by the indirect rule.
 fn by_anchor(n: u8, table: &[u8], round: u32, cells: &[u32], walk: Walk, work: &mut [u8]) -> Round
-    requires { ⌜ InHand (boxSetting n) first n (now table) round (now cells) (walk .anchor) (walk .done) (now work) ⌝ }
+    requires { ⌜ 0 < round ⌝ }
+    requires { ⌜ InHand (boxSetting n) first n (now table) (round - 1) round (leader n round) (now cells) (walk .anchor) (walk .done) (now work) ⌝ }
     ensures { λ r. ⌜ InCell references (verticesOf (now (table .entry)))
-        (indirect (boxSetting n) n (verticesOf (now (table .entry))) (round - 1)
-        (anchor (drop (round + 2) (decisions (boxSetting n) n (verticesOf (now (table .entry)))))))
+        (indirectly (boxSetting n) n (verticesOf (now (table .entry))) (round - 1))
         (now (work .entry)) (r .cell) (r .walk .anchor) (r .walk .done) (now (work .exit)) ⌝ }
 {
     let top = highest_of(table);
     let t = stop_at(cells, round, top);
-    if top < t {
+    if (top as usize) < t {
         return Round { cell: 0, walk };
     }
-    let c = cells[t as usize - 1];
+    let c = cell_at(cells, t - 1);
     if c == 0 {
         return Round { cell: 0, walk };
     }
@@ -107,22 +75,15 @@ fn by_anchor(n: u8, table: &[u8], round: u32, cells: &[u32], walk: Walk, work: &
 
 // One round: by the direct rules, and else by the indirect one.
 fn decide_one(n: u8, table: &[u8], round: u32, cells: &[u32], walk: Walk, work: &mut [u8]) -> Round
-    requires { ⌜ InHand (boxSetting n) first n (now table) round (now cells) (walk .anchor) (walk .done) (now work) ⌝ }
+    requires { ⌜ 0 < round ⌝ }
+    requires { ⌜ InHand (boxSetting n) first n (now table) (round - 1) round (leader n round) (now cells) (walk .anchor) (walk .done) (now work) ⌝ }
     ensures { λ r. ⌜ InCell references (verticesOf (now (table .entry)))
         (decisionAt (decisions (boxSetting n) n (verticesOf (now (table .entry)))) (round - 1)) (now (work .entry)) (r .cell) (r .walk .anchor)
         (r .walk .done) (now (work .exit)) ⌝ }
 {
-    let k = record::records_of(table);
-    let leader = leader_of(n, round);
-    let p = direct_commit(n, table, round, leader, work);
-    if p < k {
-        return Round {
-            cell: cell_of(p, k, 0),
-            walk,
-        };
-    }
-    if direct_skip(n, table, round, leader, work) {
-        return Round { cell: 1, walk };
+    let c = directly(n, table, round, leader_of(n, round), work);
+    if c != 0 {
+        return Round { cell: c, walk };
     }
     by_anchor(n, table, round, cells, walk, work)
 }

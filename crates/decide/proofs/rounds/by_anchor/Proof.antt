@@ -1,72 +1,74 @@
 -- `decide::rounds::by_anchor` meets its contract: past the highest round or at an undecided one it stays undecided, and else it goes through
 -- the anchor.
 -- Assumes nothing.
-use Prim.Native.Nat.{_-_}
+use Prim.Native.Nat.{ℕ, _+_, _-_, _<_}
+use mathlib.Core.Path.{_≡_}
 use native.Mathlib.Omega.{arith}
-use Rattle.decide.proofs.InCells.{round-low}
-use Rattle.decide.proofs.Stops.{told-past, told-open, anchor-cell, told-through}
+use Rattle.rules.proofs.Slots.{one-leader}
+use Rattle.decide.proofs.Anchors.{told-past, told-open, has-anchor, at-anchor, told-through}
 use borrow.Author.Needs.{needs}
 use Rattle.decide.proofs.rounds.by_anchor.Statement.{statement}
 use Rattle.decide.proofs.rounds.by_anchor.Tie as tie
 
-stop-at-requires : tie.Need-stop-at-requires
-stop-at-requires c κs =
-    let I = c .before .before .before .before .pre in
-    (round-low I, (omega (arith, c .highest-of .ensures, I .ready .sound .rounds), omega (arith, c .highest-of .ensures, I .above .slots)))
+-- the search starts three rounds up
+starts : (round : ℕ) → 0 < round → round + 2 ≡ round - 1 + 3
+starts round pos = omega arith
 
 returns : tie.Need-returns
 returns c =
     let T = c .before in
     let H = T .before in
-    told-past (H .before .before .before .before .pre) _ _ (H .highest-of .ensures) (T .stop-at .ensures) (c .if1 .taken)
-
-shared-slice-read-c : tie.Need-shared-slice-read-c
-shared-slice-read-c c =
-    let H = c .before .before .before in
-    omega (arith, H .highest-of .ensures, H .before .before .before .before .pre .above .slots)
+    let s = H .before .before .before .before in
+    told-past (s .pre .1) (one-leader (s .args .n)) _ (s .args .round + 2) _ (starts _ (s .pre .0)) (H .highest-of .ensures) (T .stop-at .ensures)
+    (c .if1 .taken)
 
 returns-2 : tie.Need-returns-2
 returns-2 c =
-    let T = c .before .before .before in
+    let K = c .before in
+    let T = K .before .before in
     let H = T .before in
-    told-open (H .before .before .before .before .pre) _ _ (H .highest-of .ensures) (T .stop-at .ensures) (c .if2 .taken)
-
-cast-through-anchor : tie.Need-cast-through-anchor
-cast-through-anchor c = omega (arith, c .before .shared-slice-known3 .given (c .before .before .before .stop-at .result - 1))
+    let s = H .before .before .before .before in
+    told-open (s .pre .1) (one-leader (s .args .n)) _ (s .args .round + 2) _ (starts _ (s .pre .0)) (H .highest-of .ensures) (T .stop-at .ensures) _
+    (K .cell-at .ensures) (c .if2 .taken)
 
 sub-through-anchor : tie.Need-sub-through-anchor
 sub-through-anchor c =
-    let T = c .before .before .before in
+    let K = c .before in
+    let T = K .before .before in
     let H = T .before in
-    anchor-cell (H .before .before .before .before .pre) _ _ (H .highest-of .ensures) (T .stop-at .ensures) (c .before .before .if1 .left) (c .if2 .left) .0
+    let s = H .before .before .before .before in
+    has-anchor (s .pre .1) (one-leader (s .args .n)) _ (s .args .round + 2) _ (starts _ (s .pre .0)) (H .highest-of .ensures) (T .stop-at .ensures) _
+    (K .cell-at .ensures) (K .before .if1 .left) (c .if2 .left)
 
 through-anchor-requires : tie.Need-through-anchor-requires
 through-anchor-requires c κs =
-    let T = c .before .before .before .before in
+    let e = c .before in
+    let K = e .before in
+    let T = K .before .before in
     let H = T .before in
-    let I = H .before .before .before .before .pre in
-    let found = anchor-cell I _ _ (H .highest-of .ensures) (T .stop-at .ensures) (c .before .before .before .if1 .left) (c .before .if2 .left) .1 in
-    record { ready = I .ready; from-one = I .from-one; low = round-low I; within = found .within; above = found .above; walked = I .walked }
+    let s = H .before .before .before .before in
+    at-anchor (s .pre .1) (one-leader (s .args .n)) _ (s .args .round + 2) _ (starts _ (s .pre .0)) (H .highest-of .ensures) (T .stop-at .ensures) _
+    (K .cell-at .ensures) (K .before .if1 .left) (e .if2 .left) (s .pre .0)
 
 returns-3 : tie.Need-returns-3
 returns-3 c =
-    let T = c .before .before .before .before .before .before .before in
+    let e = c .before .before .before .before in
+    let K = e .before in
+    let T = K .before .before in
     let H = T .before in
-    told-through (H .before .before .before .before .pre) _ _ (H .highest-of .ensures) (T .stop-at .ensures)
-    (c .before .before .before .before .before .before .if1 .left) (c .before .before .before .before .if2 .left) _ _ _ _
-    (c .before .before .through-anchor .ensures)
+    let s = H .before .before .before .before in
+    told-through (s .pre .1) (one-leader (s .args .n)) _ (s .args .round + 2) _ (starts _ (s .pre .0)) (H .highest-of .ensures) (T .stop-at .ensures) _
+    (K .cell-at .ensures) (K .before .if1 .left) (e .if2 .left) _ _ _ _ (c .before .before .through-anchor .ensures)
 
 pub by-anchor-spec : {M : Type 1} → statement M
 by-anchor-spec =
     tie.close
     (tie.spec
-    (λ c κs. search needs)
-    stop-at-requires
+    (λ c κs. search needs) (λ c κs. search needs) (λ c. search needs)
     returns
-    (λ c. search needs) (λ c. search needs) (λ c. search needs)
-    shared-slice-read-c
+    (λ c. search needs) (λ c κs. search needs)
     returns-2
-    cast-through-anchor
+    (λ c. search needs)
     sub-through-anchor
     through-anchor-requires
     (λ c. search needs)

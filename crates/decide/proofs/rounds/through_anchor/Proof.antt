@@ -1,11 +1,12 @@
 -- `decide::rounds::through_anchor` meets its contract.
 -- Assumes nothing.
-use mathlib.Core.Path.{sym, _∙_}
+use mathlib.Core.Path.{refl, sym, _∙_}
 use native.Mathlib.Omega.{arith}
 use Rattle.rules.specs.Record.{first}
+use Rattle.rules.specs.Decide.{boxSetting}
 use Rattle.rules.proofs.Records.{vertices-length}
 use Rattle.decide.proofs.Sound.{ready-on}
-use Rattle.decide.proofs.InCells.{through-told}
+use Rattle.decide.proofs.InCells.{box-slot, through-told}
 use borrow.Author.Needs.{needs}
 use Rattle.decide.proofs.rounds.through_anchor.Statement.{statement}
 use Rattle.decide.proofs.rounds.through_anchor.Tie as tie
@@ -40,9 +41,10 @@ returns c =
     let k = l .before in
     let s = k .before .before .before in
     let found = rw (l .leader-of .ensures) at (i .certified-in .ensures) in
-    through-told (s .pre .ready .sound .accepted) (s .args .round) (s .pre .from-one) (s .args .a) (i .certified-in .result) found (k .records-of .result)
-    (k .records-of .ensures ∙ sym (vertices-length first (s .args .table .now))) (c .cell-of .result) (c .cell-of .ensures) _ _ _ _ (w .walk-to .ensures .0)
-    (w .walk-to .ensures .1 .0) (w .walk-to .ensures .1 .1 .1)
+    let slot = box-slot (s .args .n) (s .args .round) _ (s .pre .from-one) refl in
+    let size = k .records-of .ensures ∙ sym (vertices-length first (s .args .table .now)) in
+    through-told (s .pre .ready .sound .accepted) (boxSetting (s .args .n)) slot (s .args .a) (i .certified-in .result) (k .records-of .result) found size
+    (c .cell-of .result) (c .cell-of .ensures) _ _ _ _ (w .walk-to .ensures .0) (w .walk-to .ensures .1 .0) (w .walk-to .ensures .1 .1 .1)
 
 pub through-anchor-spec : {M : Type 1} → statement M
 through-anchor-spec =

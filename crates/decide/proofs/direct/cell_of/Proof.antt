@@ -1,8 +1,8 @@
--- `decide::rounds::cell_of` meets its contract. Assumes nothing.
+-- `decide::direct::cell_of` meets its contract. Assumes nothing.
 use borrow.Author.Tests.{lt-ltb, le-ltb}
 use borrow.Author.Needs.{needs}
-use Rattle.decide.proofs.rounds.cell_of.Statement.{statement}
-use Rattle.decide.proofs.rounds.cell_of.Tie as tie
+use Rattle.decide.proofs.direct.cell_of.Statement.{statement}
+use Rattle.decide.proofs.direct.cell_of.Tie as tie
 
 returns : tie.Need-returns
 returns c = rw (lt-ltb _ _ (c .if1 .taken))

@@ -1,0 +1,2 @@
+pub mod Stops
+pub mod Unique

@@ -6,7 +6,6 @@ ghost use Rattle.rules.specs.Settlement.{lent};
 ghost use Rattle.folds.specs.Folds.{bytesOver};
 ghost use Rattle.decide.specs.Promise.{DecidesTo};
 use rules::Checked;
-use rules::Refusal;
 
 mod certify;
 mod direct;
@@ -33,22 +32,12 @@ pub fn decide(n: u8, table: &[u8], cells: &mut [u32], order: &[u32], taken: &mut
     ensures { λ r. ⌜ DecidesTo n (now (table .entry))
         (lent (now (cells .entry)) (now (order .entry)) (now (taken .entry))) r (now (cells .exit)) (now (taken .exit)) ⌝ }
 {
-    let c = table::check(n, table);
+    let c = lent::lent_check(n, table, cells, order, taken);
     match c {
         Checked::Passed => {}
         Checked::Refused(r) => return Checked::Refused(r),
     }
     let k = record::records_of(table);
-    let top = search::highest_of(table) as usize;
-    if cells.len() < top {
-        return Checked::Refused(Refusal::Lent);
-    }
-    if order.len() < k {
-        return Checked::Refused(Refusal::Lent);
-    }
-    if taken.len() < k {
-        return Checked::Refused(Refusal::Lent);
-    }
     rounds::decide_all(n, table, cells, &mut taken[0..k]);
     clear(taken, k);
     Checked::Passed

@@ -75,7 +75,10 @@ module _ (n : ℕ) (t : List ℕ) (b : Buffers) where
           → DecidesTo n t b Passed cells taken
       unfolding cellsAfter takenAfter tooShort lentCheck
       decided-to c o l cells taken e f = record {
-        answer = sym (then-passed _ _ passes ∙ when-no _ _ (or-false _ _ (le-ltb _ _ c) (or-false _ _ (le-ltb (length (b .order)) (length vs) (omega (arith, o, all-records))) (le-ltb (length (b .taken)) (length vs) (omega (arith, l, all-records))))));
+        answer =
+            let o′ = le-ltb (length (b .order)) (length vs) (omega (arith, o, all-records)) in
+            let l′ = le-ltb (length (b .taken)) (length vs) (omega (arith, l, all-records)) in
+            sym (then-passed _ _ passes ∙ when-no _ _ (or-false _ _ (le-ltb _ _ c) (or-false _ _ o′ l′)));
         in-cells = e;
         in-taken = f ∙ ap (λ j. bytesOver (λ p. 0) j (b .taken)) size;
       }

@@ -55,7 +55,8 @@ module _ (n : ℕ) (t : List ℕ) (before : Buffers) (x : Settlement) (after : B
   refuses : (c : Told (Unit {0})) → checked ≡ c → Refuses n t before x after
   unfolding settle settleIf settled
   refuses (gives a) e =
-      let is : outcomeTells (x .outcome) ≡ settled (boxSetting n) n (vertices first t) before .outcome = S .outcome ∙ ap (λ c. settleIf c (boxSetting n) n (vertices first t) before .outcome) e in
+      let is : outcomeTells (x .outcome) ≡ settled (boxSetting n) n (vertices first t) before .outcome =
+      S .outcome ∙ ap (λ c. settleIf c (boxSetting n) n (vertices first t) before .outcome) e in
       record {
         given = λ k values f. absurd (let z : _≡_ {A = ℕ} 0 1 = cc in omega arith);
         only-then = λ k values f. absurd (let z : _≡_ {A = ℕ} 0 1 = cc in omega arith);
@@ -85,7 +86,8 @@ base = record {
   settles = settles;
   orders = demand-2-order;
   boxes-agree = demand-3;
-  calls-agree = λ n t u P before before′ after after′ x y c d S e S′ e′. demand-3-in-buffers n t u before before′ c d after after′ P (settled-to n t before x after S c e) (settled-to n u before′ y after′ S′ d e′);
+  calls-agree = λ n t u P before before′ after after′ x y c d S e S′ e′.
+      demand-3-in-buffers n t u before before′ c d after after′ P (settled-to n t before x after S c e) (settled-to n u before′ y after′ S′ d e′);
   one-result = settle-unique;
   examples = examples;
   past-f = past-f;

@@ -79,7 +79,8 @@ pub record Base : Type 2 where
       → AgreeIn t u c d after after′
   -- any two results that meet the contract of `settle` are equal; each crate's `proofs/Unique.antt` says it of its own
   pub one-result : Only 4 settle-kinds.ps settle-kinds.r
-      (λ κs x e y f. (x ≡ y) × (lent (now (e .1 .1 .0)) (now (e .1 .1 .1 .0)) (now (e .1 .1 .1 .1 .0)) ≡ lent (now (f .1 .1 .0)) (now (f .1 .1 .1 .0)) (now (f .1 .1 .1 .1 .0))))
+      (λ κs x e y f. (x ≡ y)
+      × (lent (now (e .1 .1 .0)) (now (e .1 .1 .1 .0)) (now (e .1 .1 .1 .1 .0)) ≡ lent (now (f .1 .1 .0)) (now (f .1 .1 .1 .0)) (now (f .1 .1 .1 .1 .0))))
       settle-promise.Post
   -- P1 to P14 and the three sums; and past f equivocators, commit before skip and the lowest mark
   pub examples : Hold

@@ -44,7 +44,9 @@ unfolding vertexOf
 none-entry vs x i l = rw (List·getD-eq-default vs noVertex l)
 
 -- where the certified vertex stands, as what it means
-pub certified-first : (n : ℕ) (vs : List Vertex) (round leader w : ℕ) → First (λ p. (eqb (at vs p .round) round and eqb (at vs p .author) leader) and certifies n vs (at vs w) (at vs p)) (length vs) (certifiedAt n vs round leader w)
+pub certified-first : (n : ℕ) (vs : List Vertex) (round leader w : ℕ)
+    → First (λ p. (eqb (at vs p .round) round and eqb (at vs p .author) leader) and certifies n vs (at vs w) (at vs p))
+    (length vs) (certifiedAt n vs round leader w)
 unfolding certifiedAt
 certified-first n vs round leader w = first-is _ (length vs)
 
@@ -185,7 +187,9 @@ module _ {n : ℕ} {vs : List Vertex} (A : Accepted n vs) where
       certified-test p l r a = both-ways _ _ (λ t. there (eqb-true _ _ t)) (λ t. eq-eqb _ _ (back t))
         where
           there : certifiedAt n vs round leader w ≡ p → certifies n vs v (at vs p) ≡ true
-          there q = and-right _ _ (subst (λ j. (eqb (at vs j .round) round and eqb (at vs j .author) leader) and certifies n vs v (at vs j) ≡ true) q (certified-first n vs round leader w .hit (omega arith)))
+          there q =
+              let hit = certified-first n vs round leader w .hit (omega arith) in
+              and-right _ _ (subst (λ j. (eqb (at vs j .round) round and eqb (at vs j .author) leader) and certifies n vs v (at vs j) ≡ true) q hit)
 
           back : certifies n vs v (at vs p) ≡ true → certifiedAt n vs round leader w ≡ p
           back t =

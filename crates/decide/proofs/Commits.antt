@@ -48,7 +48,15 @@ module _ (vs : List Vertex) (pass : Vertex → Bool) (b : ℕ) where
 
   -- all fail
   pub from-none : (e p : ℕ) → b ≤ p → e ≤ p → p - b ≤ e - b → FailTo vs pass b p → p ≡ firstFrom vs pass b e
-  from-none e p l h k f = by-test (ltb p e) (λ s. absurd (omega (arith, ltb-true p e s))) (λ s. let is : firstTo test (e - b) ≡ p - b = first-by test (e - b) (p - b) (record { within = k; before = λ i o. f (b + i) (omega arith) (omega arith); hit = λ o. absurd (omega arith) }) in omega (arith, is))
+  from-none e p l h k f =
+      by-test (ltb p e) (λ s. absurd (omega (arith, ltb-true p e s)))
+      (λ s.
+      let is : firstTo test (e - b) ≡ p - b = first-by test (e - b) (p - b) (record {
+        within = k;
+        before = λ i o. f (b + i) (omega arith) (omega arith);
+        hit = λ o. absurd (omega arith);
+      }) in
+      omega (arith, is))
 
   -- and back: all before the one that is found fail, and it passes if it is below e
   pub from-fail : (e p : ℕ) → p ≡ firstFrom vs pass b e → FailTo vs pass b p
@@ -70,7 +78,14 @@ module _ {n : ℕ} {vs : List Vertex} (A : Accepted n vs) (r a : ℕ) (pass : Ve
 
   -- what is not in the slot, and what is and fails
   before-none : (p : ℕ) → FailTo vs pass (startOf vs r a) p → p ≤ startOf vs r (a + 1) → (i : ℕ) → i < length vs → (i < p) → inTest i ≡ false
-  before-none p f l i h k = failed _ (λ e. let s = slot-in A r a i (record { within = h; round = eqb-true _ _ (and-left _ _ (and-left _ _ e)); author = eqb-true _ _ (and-right _ _ (and-left _ _ e)) }) in not-both (and-right _ _ e) (f i (s .from-on) k))
+  before-none p f l i h k =
+      failed _ (λ e.
+      let s = slot-in A r a i (record {
+        within = h;
+        round = eqb-true _ _ (and-left _ _ (and-left _ _ e));
+        author = eqb-true _ _ (and-right _ _ (and-left _ _ e));
+      }) in
+      not-both (and-right _ _ e) (f i (s .from-on) k))
 
   pub first-in-found : (p : ℕ) → startOf vs r a ≤ p → p < startOf vs r (a + 1) → FailTo vs pass (startOf vs r a) p → pass (at vs p) ≡ true
       → p ≡ firstIn vs r a pass
@@ -88,6 +103,12 @@ module _ {n : ℕ} {vs : List Vertex} (A : Accepted n vs) (r a : ℕ) (pass : Ve
   first-in-none f =
       sym (first-by inTest (length vs) (length vs) (record {
         within = omega arith;
-        before = λ i k. failed _ (λ e. let s = slot-in A r a i (record { within = k; round = eqb-true _ _ (and-left _ _ (and-left _ _ e)); author = eqb-true _ _ (and-right _ _ (and-left _ _ e)) }) in not-both (and-right _ _ e) (f i (s .from-on) (s .up-to)));
+        before = λ i k. failed _ (λ e.
+            let s = slot-in A r a i (record {
+              within = k;
+              round = eqb-true _ _ (and-left _ _ (and-left _ _ e));
+              author = eqb-true _ _ (and-right _ _ (and-left _ _ e));
+            }) in
+            not-both (and-right _ _ e) (f i (s .from-on) (s .up-to)));
         hit = λ l. absurd (omega arith);
       }))

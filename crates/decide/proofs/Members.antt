@@ -32,7 +32,11 @@ use Rattle.decide.proofs.Marked.{by-references, history-size, history-l
 -- ---- the first of those that pass one test or another
 
 pub first-or : (f g h : ℕ → Bool) (k : ℕ) → ((p : ℕ) → p < k → h p ≡ f p or g p) → firstTo h k ≡ min (firstTo f k) (firstTo g k)
-first-or f g h k e = first-by h k (min x y) (record { within = omega (arith, F .within); before = before-min; hit = λ l. by-test (leb x y) (λ t. left l (leb-true x y t)) (λ t. right l (leb-false x y t)) })
+first-or f g h k e = first-by h k (min x y) (record {
+  within = omega (arith, F .within);
+  before = before-min;
+  hit = λ l. by-test (leb x y) (λ t. left l (leb-true x y t)) (λ t. right l (leb-false x y t));
+})
   where
     x : ℕ
     x = firstTo f k
@@ -126,7 +130,11 @@ module _ {n : ℕ} {vs : List Vertex} (A : Accepted n vs) (round leader a : ℕ)
 
   pub told-end : below (startOf vs (round + 3) 0) ≡ firstIn vs round leader (certifiedIn n vs h)
   unfolding toldBelow firstIn certifiedIn
-  told-end = first-same _ _ (length vs) (λ p l. both-ways _ _ (λ e. and-true _ _ (and-left _ _ e) (to p (any-witness _ _ (and-right _ _ e)))) (λ e. and-true _ _ (and-left _ _ e) (from p (and-left _ _ e) (any-witness _ _ (and-right _ _ e)))))
+  told-end =
+      first-same _ _ (length vs)
+      (λ p l. both-ways _ _
+      (λ e. and-true _ _ (and-left _ _ e) (to p (any-witness _ _ (and-right _ _ e))))
+      (λ e. and-true _ _ (and-left _ _ e) (from p (and-left _ _ e) (any-witness _ _ (and-right _ _ e)))))
     where
       size : length h ≡ suc a
       size = history-size A (by-references A) a la

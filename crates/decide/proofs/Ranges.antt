@@ -164,4 +164,5 @@ start-is {n} t A r a p e =
     let all : min (records first t) (records first t) ≡ records first t = omega arith in
     let same : (i : ℕ) → i < records first t → not (below (nameAt t i) (named r a 0)) ≡ not (below (nameOf (at (vertices first t) i)) (named r a 0)) =
     λ i l. ap (λ x. not (below x (named r a 0))) (sym (name-at t i l)) in
-    e ∙ rw (all, vertices-length first t) (sym (first-by _ (records first t) _ (place-first t (named r a 0) (rise-all n t A))) ∙ first-same _ _ (records first t) same)
+    e ∙ rw (all, vertices-length first t)
+    (sym (first-by _ (records first t) _ (place-first t (named r a 0) (rise-all n t A))) ∙ first-same _ _ (records first t) same)

@@ -48,7 +48,10 @@ module _ (E : Edition) (n : ℕ) (t : List ℕ) (ok : check E n t ≡ passed) wh
       some l = round-low (pred (length (vertices E t))) (rw (← vertices-length E t) l)
 
       none : length (vertices E t) ≤ pred (length (vertices E t)) → at (vertices E t) (pred (length (vertices E t))) .round ≤ lastRound
-      none l = let zero : at (vertices E t) (pred (length (vertices E t))) .round ≡ 0 = ap (λ (v : Vertex). v .round) (List·getD-eq-default (vertices E t) noVertex l) in omega (arith, zero)
+      none l =
+          let zero : at (vertices E t) (pred (length (vertices E t))) .round ≡ 0 =
+          ap (λ (v : Vertex). v .round) (List·getD-eq-default (vertices E t) noVertex l) in
+          omega (arith, zero)
 
   pub sound : Sound E n t
   sound = record { accepted = accepted E n t ok; few = rw (vertices-length E t) few; rounds = highest-low }

@@ -45,8 +45,12 @@ tagged-start from tag m = record { retagged = retagged-same m; tags = λ j l h. 
 pub tagged-next : (from : ℕ) (tag : ℕ → ℕ) (old : List ℕ) (q : ℕ) (new : List ℕ) (byte : ℕ) → q < length new → byte / 128 ≡ historyAt new q → byte % 128 ≡ tag q
     → TaggedTo from tag old q new → TaggedTo from tag old (q + 1) (set new q byte)
 tagged-next from tag old q new byte l h e t = record {
-  retagged = retagged-on old new (set new q byte) (t .retagged) (record { same-length = length-set new q byte; history-kept = λ j. by-test (eqb j q) (λ b. kept j (eqb-true j q b)) (λ b. ap (λ x. x / 128) (other j (eqb-false j q b))) });
-  tags = λ j f b. by-test (eqb j q) (λ s. here j (eqb-true j q s)) (λ s. ap (λ x. x % 128) (other j (eqb-false j q s)) ∙ t .tags j f (omega (arith, eqb-false j q s)));
+  retagged = retagged-on old new (set new q byte) (t .retagged) (record {
+    same-length = length-set new q byte;
+    history-kept = λ j. by-test (eqb j q) (λ b. kept j (eqb-true j q b)) (λ b. ap (λ x. x / 128) (other j (eqb-false j q b)));
+  });
+  tags = λ j f b. by-test (eqb j q) (λ s. here j (eqb-true j q s))
+      (λ s. ap (λ x. x % 128) (other j (eqb-false j q s)) ∙ t .tags j f (omega (arith, eqb-false j q s)));
 }
   where
     other : (j : ℕ) → (j ≡ q → ⊥) → getD (set new q byte) j 0 ≡ getD new j 0
@@ -199,7 +203,9 @@ module _ {n : ℕ} {vs : List Vertex} (A : Accepted n vs) where
       → ((w : ℕ) → w < length vs → at vs w .round ≡ r + 2 → tagAt m w ≡ windowTag (certifiedAt n vs r leader w) b e)
       → b ≤ p → p < e → InSlot vs r leader p → leb (quorum n) (authorsTagged n vs (r + 2) (p - b + 1) m) ≡ directCommit n vs (at vs p)
   unfolding directCommit
-  commit-tagged r leader b e p m T l h s = ap (leb (quorum n)) (authors-tagged-are (r + 2) (p - b + 1) m (λ w. certifies n vs w (at vs p)) told (λ v c. certifies-is n vs v (at vs p) c .two-up ∙ ap (λ x. x + 2) (s .round)))
+  commit-tagged r leader b e p m T l h s =
+      ap (leb (quorum n)) (authors-tagged-are (r + 2) (p - b + 1) m (λ w. certifies n vs w (at vs p)) told
+      (λ v c. certifies-is n vs v (at vs p) c .two-up ∙ ap (λ x. x + 2) (s .round)))
     where
       told : (w : ℕ) → w < length vs → at vs w .round ≡ r + 2 → eqb (tagAt m w) (p - b + 1) ≡ certifies n vs (at vs w) (at vs p)
       told w lw q =

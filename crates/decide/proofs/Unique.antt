@@ -17,7 +17,11 @@ decides-once : {n : ℕ} {t : List ℕ} {before : Buffers} {x y : Checked} {c d 
     → (x ≡ y) × ((c ≡ d) × (k ≡ l))
 decides-once {n} {t} {before} p q =
     let e = p .answer ∙ sym (q .answer) in
-    (check-unique _ _ e, (p .in-cells ∙ ap (λ c. cellsAfter c n t (before .cells)) e ∙ sym (q .in-cells), p .in-taken ∙ ap (λ c. takenAfter c t (before .taken)) e ∙ sym (q .in-taken)))
+    let cells = p .in-cells ∙ ap (λ c. cellsAfter c n t (before .cells)) e ∙ sym (q .in-cells) in
+    let taken = p .in-taken ∙ ap (λ c. takenAfter c t (before .taken)) e ∙ sym (q .in-taken) in
+    (check-unique _ _ e, (cells, taken))
 
-pub decide-unique : Only 4 decide-kinds.ps decide-kinds.r (λ κs x e y f. (x ≡ y) × ((now (e .1 .1 .0) ≡ now (f .1 .1 .0)) × (now (e .1 .1 .1 .1 .0) ≡ now (f .1 .1 .1 .1 .0)))) decide.Post
+pub decide-unique : Only 4 decide-kinds.ps decide-kinds.r
+    (λ κs x e y f. (x ≡ y) × ((now (e .1 .1 .0) ≡ now (f .1 .1 .0)) × (now (e .1 .1 .1 .1 .0) ≡ now (f .1 .1 .1 .1 .0))))
+    decide.Post
 decide-unique κs a x y e f p q = decides-once p q

@@ -1,5 +1,5 @@
--- An export says what its call says. The numbers of `record_box_check`, `record_box_lookup_answer` and `record_box_settle` fix the answer of the call, so nothing is lost
--- in them; place and length of `record_box_lookup` are those of the part that `lookup::lookup` hands back.
+-- An export says what its call says. The numbers of `record_box_check`, `record_box_lookup_answer` and `record_box_settle` fix the answer
+-- of the call, so nothing is lost in them; place and length of `record_box_lookup` are those of the part that `lookup::lookup` hands back.
 -- Assumes nothing.
 use mathlib.Core.Path.{_≡_, refl, sym, ap, ap₂, _∙_}
 use mathlib.Core.List.{List, _∷_, []}
@@ -62,6 +62,7 @@ settled-fixed (outcome.Refused r) (outcome.Refused s) e =
     ap outcome.Refused (refusal-fixed r s (ap (λ (a : SettledNumbers). a .number) e) (ap (λ (a : SettledNumbers). a .position) e))
 
 -- r meets the promise of `lookup::lookup`, and p that of the export
-pub lookup-same : (n : ℕ) (t r : RefT (List ℕ)) (x : Name) (p : Part) → PartOf t r (lookupBegin first n (now t) x) (lookupLength first n (now t) x) → p ≡ partAs first n (now t) x
+pub lookup-same : (n : ℕ) (t r : RefT (List ℕ)) (x : Name) (p : Part)
+    → PartOf t r (lookupBegin first n (now t) x) (lookupLength first n (now t) x) → p ≡ partAs first n (now t) x
     → PartOf t r (p .begin) (p .length)
 lookup-same n t r x p h e = rw e h

@@ -28,10 +28,15 @@ pub lookup-answer-unique : Only 1 lookup-answer-kinds.ps lookup-answer-kinds.r (
 lookup-answer-unique κs a x y e f p q = p ∙ sym q
 
 -- the numbers of a settlement, and with them the cells, the order places and the taken bytes
-settles-once : {n : ℕ} {t : List ℕ} {before after other : Buffers} {x y : SettledNumbers} → SettlesAs n t before x after → SettlesAs n t before y other → (x ≡ y) × (after ≡ other)
-settles-once p q = (p .numbers ∙ sym (q .numbers), λ i. record { cells = (p .cells ∙ sym (q .cells)) i; order = (p .order ∙ sym (q .order)) i; taken = (p .taken ∙ sym (q .taken)) i })
+settles-once : {n : ℕ} {t : List ℕ} {before after other : Buffers} {x y : SettledNumbers} → SettlesAs n t before x after → SettlesAs n t before y other
+    → (x ≡ y) × (after ≡ other)
+settles-once p q = (
+  p .numbers ∙ sym (q .numbers),
+  λ i. record { cells = (p .cells ∙ sym (q .cells)) i; order = (p .order ∙ sym (q .order)) i; taken = (p .taken ∙ sym (q .taken)) i },
+)
 
 pub settle-unique : Only 4 settle-kinds.ps settle-kinds.r
-    (λ κs x e y f. (x ≡ y) × (lent (now (e .1 .1 .0)) (now (e .1 .1 .1 .0)) (now (e .1 .1 .1 .1 .0)) ≡ lent (now (f .1 .1 .0)) (now (f .1 .1 .1 .0)) (now (f .1 .1 .1 .1 .0))))
+    (λ κs x e y f. (x ≡ y)
+    × (lent (now (e .1 .1 .0)) (now (e .1 .1 .1 .0)) (now (e .1 .1 .1 .1 .0)) ≡ lent (now (f .1 .1 .0)) (now (f .1 .1 .1 .0)) (now (f .1 .1 .1 .1 .0))))
     settle.Post
 settle-unique κs a x y e f p q = settles-once p q

@@ -64,7 +64,9 @@ pub first-least : {p : ℕ → Bool} {k m : ℕ} → First p k m → (i : ℕ) �
 first-least {m = m} a i e = by-test (ltb i m) (λ t. absurd (not-both e (a .before i (ltb-true i m t)))) (λ t. ltb-false i m t)
 
 first-step : (p : ℕ → Bool) (k m : ℕ) → First p k m → First p (suc k) (cond (ltb m k) m (cond (p k) k (suc k)))
-first-step p k m r = by-test (ltb m k) (λ e. rw e (old (ltb-true m k e))) (λ e. rw e (by-test (p k) (λ h. rw h (now (ltb-false m k e) h)) (λ h. rw h (none (ltb-false m k e) h))))
+first-step p k m r =
+    by-test (ltb m k) (λ e. rw e (old (ltb-true m k e)))
+    (λ e. rw e (by-test (p k) (λ h. rw h (now (ltb-false m k e) h)) (λ h. rw h (none (ltb-false m k e) h))))
   where
     old : m < k → First p (suc k) m
     old l = record { within = le-step (r .within); before = r .before; hit = λ _. r .hit l }
@@ -198,7 +200,9 @@ any-cut p n k h = by-test (anyTo p n) (λ e. up (any-witness p n e) ∙ sym e) (
 pub count-pos : (p : ℕ → Bool) (k i : ℕ) → i < k → p i ≡ true → 0 < countTo p k
 unfolding countTo
 count-pos p zero i l e = absurd (not-suc-le-zero l)
-count-pos p (suc k) i l e = ⊎-elim (λ q. let t : bit (p k) ≡ 1 = rw (← q, e) in omega arith) (λ h. omega (arith, count-pos p k i h e)) (eq-or-lt-of-le (le-of-suc-le-suc l))
+count-pos p (suc k) i l e =
+    ⊎-elim (λ q. let t : bit (p k) ≡ 1 = rw (← q, e) in omega arith) (λ h. omega (arith, count-pos p k i h e))
+    (eq-or-lt-of-le (le-of-suc-le-suc l))
 
 -- some number passes exactly when the count is above 0
 pub any-count : (p : ℕ → Bool) (k : ℕ) → anyTo p k ≡ ltb 0 (countTo p k)

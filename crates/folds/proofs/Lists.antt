@@ -44,7 +44,8 @@ tabulate-same f g zero h = refl
 tabulate-same f g (suc k) h = rw (tabulate-same f g k (λ i l. h i (le-step l)), h k (le-refl (suc k)))
 
 -- an array that is filled from its front
-pub tabulate-fill {ℓ} : {A : Type ℓ} (f : ℕ → A) (i : ℕ) (r : List A) (v : A) → i < length r → v ≡ f i → take i r ≡ tabulate f i → take (i + 1) (set r i v) ≡ tabulate f (i + 1)
+pub tabulate-fill {ℓ} : {A : Type ℓ} (f : ℕ → A) (i : ℕ) (r : List A) (v : A) → i < length r → v ≡ f i → take i r ≡ tabulate f i
+    → take (i + 1) (set r i v) ≡ tabulate f (i + 1)
 unfolding tabulate
 tabulate-fill f i r v h e q = rw (add-one i, take-suc-set r i v h, q, e)
 
@@ -82,7 +83,8 @@ unfolding filterTo
 filter-sound p zero x m = absurd (List·Memᴰ·not-nil m)
 filter-sound p (suc k) x m = in-last-or-before (λ h. filter-sound p k x h) (List·Memᴰ·append-cases (filterTo p k) m)
   where
-    in-last-or-before : (List·Memᴰ x (filterTo p k) → (x < k) × (p x ≡ true)) → List·Memᴰ x (filterTo p k) ⊎ List·Memᴰ x (cond (p k) (k ∷ []) []) → (x < suc k) × (p x ≡ true)
+    in-last-or-before : (List·Memᴰ x (filterTo p k) → (x < k) × (p x ≡ true)) → List·Memᴰ x (filterTo p k) ⊎ List·Memᴰ x (cond (p k) (k ∷ []) [])
+        → (x < suc k) × (p x ≡ true)
     in-last-or-before rest (inl h) = let r = rest h in (le-step (r .0), r .1)
     in-last-or-before rest (inr h) = let r = last-listed (p k) k x h in (rw (r .1) (le-refl (suc k)), rw (r .1) (r .0))
 

@@ -50,11 +50,14 @@ unfolding frontOf
 front-none = refl
 
 -- One digit more stands before those that are written.
-pub digit-put : (b : List ℕ) (m s d : ℕ) → 0 < m → 0 < s → s ≤ length b → d ≡ digit (m % 10) → frontOf (m / 10) ++ drop (s - 1) (set b (s - 1) d) ≡ frontOf m ++ drop s b
+pub digit-put : (b : List ℕ) (m s d : ℕ) → 0 < m → 0 < s → s ≤ length b → d ≡ digit (m % 10)
+    → frontOf (m / 10) ++ drop (s - 1) (set b (s - 1) d) ≡ frontOf m ++ drop s b
 digit-put b m zero d h p l e = absurd (omega arith)
 digit-put b m (suc s) d h p l e =
     let f : frontOf m ≡ frontOf (m / 10) ++ d ∷ [] = front-some m h ∙ rw e (decimal-last m) in
-    let q : drop s (set b s d) ≡ d ∷ drop (suc s) b = drop-cons (set b s d) s 0 (simp length-set (omega arith)) ∙ rw (getD-set-same b s d 0 (omega arith), drop-set-lt (suc s) b s d (le-refl (suc s))) in
+    let q : drop s (set b s d) ≡ d ∷ drop (suc s) b =
+    drop-cons (set b s d) s 0 (simp length-set (omega arith))
+    ∙ rw (getD-set-same b s d 0 (omega arith), drop-set-lt (suc s) b s d (le-refl (suc s))) in
     let o : suc s - 1 ≡ s = omega arith in
     rw (o, q, f) (sym (append-snoc (frontOf (m / 10)) d (drop (suc s) b)))
 

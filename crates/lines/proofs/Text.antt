@@ -37,7 +37,8 @@ grown-twice {l} {m} {r} {a} {b} p q = record {
 pub numbered : {l r : Line} {x : ℕ} {d : Digits} → Spelled x d → Grown l (32 ∷ take (20 - d .start) (drop (d .start) (d .bytes))) r → Numbered l x r
 numbered {l} {r} {x} {d} p q =
     let n : length (drop (d .start) (d .bytes)) ≡ 20 - d .start = rw (length-drop, p .whole) in
-    let e : take (20 - d .start) (drop (d .start) (d .bytes)) ≡ decimal x = take-all (20 - d .start) (drop (d .start) (d .bytes)) (rw n (le-refl (20 - d .start))) ∙ p .digits in
+    let e : take (20 - d .start) (drop (d .start) (d .bytes)) ≡ decimal x =
+    take-all (20 - d .start) (drop (d .start) (d .bytes)) (rw n (le-refl (20 - d .start))) ∙ p .digits in
     let k : length (decimal x) ≡ 20 - d .start = rw (p .digits) at n in
     let g : Grown l (32 ∷ decimal x) r = rw e at q in
     record { grown = g; few = omega (arith, g .len) }

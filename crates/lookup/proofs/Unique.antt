@@ -1,5 +1,6 @@
 -- Each public call has one result: any two results that meet its promise are equal, since what an answer tells fixes it. Of the lookup's references the block,
--- the place in it and the bytes are equal. `Post` is a call's promise as it stands in its contract, so a weaker one would not pass here. No call changes what it is lent.
+-- the place in it and the bytes are equal. `Post` is a call's promise as it stands in its contract, so a weaker one would not pass here.
+-- No call changes what it is lent.
 -- Assumes nothing.
 use mathlib.Core.Path.{_≡_, refl, sym, ap, _∙_}
 use Rattle.rules.specs.Refusals.{gives, refusalTells}

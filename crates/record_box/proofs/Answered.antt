@@ -22,7 +22,8 @@ unfolding answered checked settleIf _when_ _then_
 long input b h = rw (lt-ltb holds (length input) h)
 
 -- else the settlement does
-fits : (input : List ℕ) (b : Buffers) → length input ≤ holds → answered input b ≡ settle (boxSetting (authorsIn input)) first (authorsIn input) (tableIn input) b
+fits : (input : List ℕ) (b : Buffers) → length input ≤ holds
+    → answered input b ≡ settle (boxSetting (authorsIn input)) first (authorsIn input) (tableIn input) b
 unfolding answered checked settle _when_ _then_
 fits input b h = rw (le-ltb holds (length input) h)
 
@@ -31,7 +32,8 @@ answers-long input b r h e =
     let a = long input b h in
     record { outcome = rw (a, e); cells = rw a; order = rw a; taken = rw a }
 
-pub answers-fits : (input t : List ℕ) (n : ℕ) (b a : Buffers) (r : Settlement) → length input ≤ holds → n ≡ authorsIn input → t ≡ tableIn input → SettlesTo n t b r a → Answers input b r a
+pub answers-fits : (input t : List ℕ) (n : ℕ) (b a : Buffers) (r : Settlement) → length input ≤ holds → n ≡ authorsIn input → t ≡ tableIn input
+    → SettlesTo n t b r a → Answers input b r a
 answers-fits input t n b a r h x y s =
     let e = fits input b h in
     let s′ : SettlesTo (authorsIn input) (tableIn input) b r a = rw (x, y) at s in

@@ -23,13 +23,15 @@ use Rattle.record_box.specs.Answer.{authorsIn, tableIn, checked, answere
 use Rattle.record_box.proofs.Rounds.{Held, long-enough}
 
 -- After a table passes, its memory is long enough: 10 is never given.
-never-lent : (n : ℕ) (t : List ℕ) (b : Buffers) (c : Told (Unit {0})) → check first n t ≡ c → length t ≤ 65412 → Held b → c then refusal 10 0 when tooShort (boxSetting n) (vertices first t) b ≡ c
+never-lent : (n : ℕ) (t : List ℕ) (b : Buffers) (c : Told (Unit {0})) → check first n t ≡ c → length t ≤ 65412 → Held b
+    → c then refusal 10 0 when tooShort (boxSetting n) (vertices first t) b ≡ c
 unfolding _then_
 never-lent n t b (gives tt) e l h = when-no _ _ (long-enough n t b (accepted first n t e) l h)
 never-lent n t b (refused r values) e l h = refl
 
 -- So the checks are those that the program makes.
-checked-is : (input : List ℕ) (b : Buffers) → Held b → checked input b ≡ refusal 12 0 when ltb holds (length input) then check first (authorsIn input) (tableIn input)
+checked-is : (input : List ℕ) (b : Buffers) → Held b
+    → checked input b ≡ refusal 12 0 when ltb holds (length input) then check first (authorsIn input) (tableIn input)
 unfolding checked lentCheck _when_ _then_
 checked-is input b h = by-test (ltb holds (length input)) long fits
   where
@@ -45,4 +47,6 @@ checked-is input b h = by-test (ltb holds (length input)) long fits
 pub prints : (input : List ℕ) (b : Buffers) → Held b
     → output (answered input b .outcome) (tableIn input) (answered input b .buffers .cells) (answered input b .buffers .order) ≡ printed input
 unfolding answered printed
-prints input b h = output-is (checked input b) (authorsIn input) (tableIn input) b ∙ ap (λ c. lines c (boxSetting (authorsIn input)) (authorsIn input) (vertices first (tableIn input))) (checked-is input b h)
+prints input b h =
+    output-is (checked input b) (authorsIn input) (tableIn input) b
+    ∙ ap (λ c. lines c (boxSetting (authorsIn input)) (authorsIn input) (vertices first (tableIn input))) (checked-is input b h)

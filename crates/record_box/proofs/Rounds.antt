@@ -42,7 +42,10 @@ module _ {n : ℕ} {vs : List Vertex} (A : Accepted n vs) where
       some h = omega (arith, round-low (length vs) (pred (length vs)) (omega arith) (omega arith))
 
       none : length vs ≤ 0 → at vs (pred (length vs)) .round ≤ length vs
-      none h = let e : at vs (pred (length vs)) .round ≡ 0 = ap (λ (v : Vertex). v .round) (List·getD-eq-default vs noVertex {n = pred (length vs)} (omega arith)) in omega arith
+      none h =
+          let e : at vs (pred (length vs)) .round ≡ 0 =
+          ap (λ (v : Vertex). v .round) (List·getD-eq-default vs noVertex {n = pred (length vs)} (omega arith)) in
+          omega arith
 
 -- What the program lends: a cell, a place and a byte for each record that it holds.
 pub record Held (b : Buffers) : Type 0 where
@@ -50,7 +53,8 @@ pub record Held (b : Buffers) : Type 0 where
   pub order : 474 ≤ length (b .order)
   pub taken : 474 ≤ length (b .taken)
 
-pub long-enough : (n : ℕ) (t : List ℕ) (b : Buffers) → Accepted n (vertices first t) → length t ≤ 65412 → Held b → tooShort (boxSetting n) (vertices first t) b ≡ false
+pub long-enough : (n : ℕ) (t : List ℕ) (b : Buffers) → Accepted n (vertices first t) → length t ≤ 65412 → Held b
+    → tooShort (boxSetting n) (vertices first t) b ≡ false
 unfolding tooShort
 long-enough n t b A l h =
     let vs = vertices first t in

@@ -31,7 +31,8 @@ round-undecided vs r cell e = rw e (undecided-line vs r)
 pub round-skipped : (vs : List Vertex) (r cell : ℕ) → cell ≡ 1 → lineSkipped r ≡ lineR vs r (said cell)
 round-skipped vs r cell e = rw e (skipped-line vs r)
 
-pub round-committed : (vs : List Vertex) (r cell : ℕ) (x : Name) → cell ≢ 0 → cell ≢ 1 → x ≡ nameOf (at vs (cell - 2)) → lineCommitted r (x .author) (x .mark) ≡ lineR vs r (said cell)
+pub round-committed : (vs : List Vertex) (r cell : ℕ) (x : Name) → cell ≢ 0 → cell ≢ 1 → x ≡ nameOf (at vs (cell - 2))
+    → lineCommitted r (x .author) (x .mark) ≡ lineR vs r (said cell)
 round-committed vs r zero x a b e = absurd (a refl)
 round-committed vs r (suc zero) x a b e = absurd (b refl)
 round-committed vs r (suc (suc p)) x a b e = let d : suc (suc p) - 2 ≡ p = omega arith in rw (e, d) (committed-line vs r p)
@@ -48,7 +49,8 @@ module _ (c : Counts) (t cells order : List ℕ) where
   settled-round zero k z h e = absurd (z refl)
   settled-round (suc j) k z h e = let d : suc j - 1 ≡ j = omega arith in rw (e, d, lt-ltb j (c .highest) (omega arith))
 
-  pub settled-vertex : (i k : ℕ) (x : Name) → i ≢ 0 → c .highest ≤ i - 1 → i - 1 - c .highest < c .written → k ≡ getD order (i - 1 - c .highest) 0 → x ≡ nameOf (at (vertices first t) k) → lineNamed x ≡ settledLine c t cells order i
+  pub settled-vertex : (i k : ℕ) (x : Name) → i ≢ 0 → c .highest ≤ i - 1 → i - 1 - c .highest < c .written → k ≡ getD order (i - 1 - c .highest) 0
+      → x ≡ nameOf (at (vertices first t) k) → lineNamed x ≡ settledLine c t cells order i
   unfolding settledLine laterLine
   settled-vertex zero k x z h w e n = absurd (z refl)
   settled-vertex (suc j) k x z h w e n =

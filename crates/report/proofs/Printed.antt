@@ -42,7 +42,9 @@ joined-same f g (suc k) h = rw (joined-same f g k (λ i l. h i (omega arith)), h
 
 -- ---- the rounds and the written vertices
 
-rounds-next : (vs : List Vertex) (r : ℕ) (d : Decision ℕ) (ds : List (Decision ℕ)) → linesR vs (suc r) ds ≡ joined (λ k. lineR vs (r + suc k) (decisionAt ds k)) (length ds) → linesR vs r (d ∷ ds) ≡ joined (λ k. lineR vs (r + k) (decisionAt (d ∷ ds) k)) (suc (length ds))
+rounds-next : (vs : List Vertex) (r : ℕ) (d : Decision ℕ) (ds : List (Decision ℕ))
+    → linesR vs (suc r) ds ≡ joined (λ k. lineR vs (r + suc k) (decisionAt ds k)) (length ds)
+    → linesR vs r (d ∷ ds) ≡ joined (λ k. lineR vs (r + k) (decisionAt (d ∷ ds) k)) (suc (length ds))
 unfolding linesR
 rounds-next vs r d ds h =
     let z : r + 0 ≡ r = omega arith in
@@ -55,7 +57,8 @@ unfolding linesR joined
 rounds-joined vs r [] = refl
 rounds-joined vs r (d ∷ ds) =
     let f : ℕ → List ℕ = λ k. lineR vs (r + k) (decisionAt (d ∷ ds) k) in
-    rounds-next vs r d ds (rounds-joined vs (suc r) ds ∙ joined-same _ (λ k. f (suc k)) (length ds) (λ i h. let e : suc r + i ≡ r + suc i = omega arith in rw e))
+    rounds-next vs r d ds
+    (rounds-joined vs (suc r) ds ∙ joined-same _ (λ k. f (suc k)) (length ds) (λ i h. let e : suc r + i ≡ r + suc i = omega arith in rw e))
 
 written-joined : (vs : List Vertex) (ps : List ℕ) → linesV vs ps ≡ joined (λ k. lineV (at vs (getD ps k 0))) (length ps)
 unfolding linesV joined
@@ -71,7 +74,10 @@ module _ (c : Counts) (t cells order : List ℕ) (ds : List (Decision ℕ)) (ps 
 
   later-rounds : joined (laterLine c vs cells order) (length ds) ≡ linesR vs 1 ds
   unfolding laterLine
-  later-rounds = joined-same _ _ (length ds) (λ k h. let e : suc k ≡ 1 + k = omega arith in rw (lt-ltb k (c .highest) (omega arith), decided k h, e)) ∙ sym (rounds-joined vs 1 ds)
+  later-rounds =
+      joined-same _ _ (length ds)
+      (λ k h. let e : suc k ≡ 1 + k = omega arith in rw (lt-ltb k (c .highest) (omega arith), decided k h, e))
+      ∙ sym (rounds-joined vs 1 ds)
 
   later-written : joined (λ k. laterLine c vs cells order (length ds + k)) (length ps) ≡ linesV vs ps
   unfolding laterLine
@@ -89,11 +95,13 @@ module _ (c : Counts) (t cells order : List ℕ) (ds : List (Decision ℕ)) (ps 
       let e : 1 + c .highest + c .written ≡ suc (length ds + length ps) = omega arith in
       let later : joined (laterLine c vs cells order) (length ds + length ps) ≡ linesR vs 1 ds ++ linesV vs ps =
       joined-more (laterLine c vs cells order) (length ds) (length ps) ∙ rw (later-rounds, later-written) in
-      rw e (joined-front (outputLine (gives c) t cells order) (length ds + length ps) ∙ ap (λ x. lineS c ++ x) later ∙ sym (append-assoc (lineS c) (linesR vs 1 ds) (linesV vs ps)))
+      rw e (joined-front (outputLine (gives c) t cells order) (length ds + length ps) ∙ ap (λ x. lineS c ++ x) later
+      ∙ sym (append-assoc (lineS c) (linesR vs 1 ds) (linesV vs ps)))
 
 -- What a settlement gives and leaves, printed line by line, is what the program prints where the same check refuses or passes.
 pub output-is : (k : Told (Unit {0})) (n : ℕ) (t : List ℕ) (b : Buffers)
-    → output (settleIf k (boxSetting n) n (vertices first t) b .outcome) t (settleIf k (boxSetting n) n (vertices first t) b .buffers .cells) (settleIf k (boxSetting n) n (vertices first t) b .buffers .order)
+    → output (settleIf k (boxSetting n) n (vertices first t) b .outcome) t
+    (settleIf k (boxSetting n) n (vertices first t) b .buffers .cells) (settleIf k (boxSetting n) n (vertices first t) b .buffers .order)
     ≡ lines k (boxSetting n) n (vertices first t)
 unfolding settleIf settled countsOf lines output outputLine outputLines joined
 output-is (refused r values) n t b = refl

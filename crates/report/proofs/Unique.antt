@@ -10,7 +10,8 @@ use Rattle.report.proofs.output_line.Reads as output-line
 use Rattle.report.proofs.output_lines.Kinds as output-lines-kinds
 use Rattle.report.proofs.output_lines.Reads as output-lines
 
-pub output-line-unique : Only 4 output-line-kinds.ps output-line-kinds.r (λ κs x e y f. (x ≡ y) × (now (e .1 .1 .1 .1 .1 .0) ≡ now (f .1 .1 .1 .1 .1 .0))) output-line.Post
+pub output-line-unique : Only 4 output-line-kinds.ps output-line-kinds.r
+    (λ κs x e y f. (x ≡ y) × (now (e .1 .1 .1 .1 .1 .0) ≡ now (f .1 .1 .1 .1 .1 .0))) output-line.Post
 output-line-unique κs a x y e f p q = fills-once p q
 
 pub output-lines-unique : Only 0 output-lines-kinds.ps output-lines-kinds.r (λ κs x e y f. x ≡ y) output-lines.Post

@@ -102,7 +102,9 @@ module _ {n : ℕ} {vs : List Vertex} (A : Accepted n vs) where
   -- a non-zero entry is one of the n
   pub entry-low : (p i : ℕ) → p < length vs → entry (at vs p) i ≢ 0 → i < n
   unfolding entriesWrong
-  entry-low p i l nz = by-test (ltb i 31) within (λ t. absurd (nz (List·getD-eq-default (at vs p .refs) 0 (omega (arith, ltb-false i 31 t, A .each p l .width)))))
+  entry-low p i l nz =
+      by-test (ltb i 31) within
+      (λ t. absurd (nz (List·getD-eq-default (at vs p .refs) 0 (omega (arith, ltb-false i 31 t, A .each p l .width)))))
     where
       none : anyTo (λ i. leb n i and refers (at vs p) i) 31 ≡ false
       none = or-neither _ _ (or-neither _ _ (A .each p l .entries) .1) .0
@@ -121,9 +123,11 @@ module _ {n : ℕ} {vs : List Vertex} (A : Accepted n vs) where
   pub enough : (p : ℕ) → p < length vs → 1 < at vs p .round → quorum n ≤ countTo (refers (at vs p)) n
   unfolding entriesWrong
   enough p l h =
-      let many : quorum n ≤ countTo (refers (at vs p)) 31 = ltb-false _ _ (and-false _ _ (or-neither _ _ (or-neither _ _ (A .each p l .entries) .1) .1) (lt-ltb _ _ h)) in
+      let r = refers (at vs p) in
+      let fits = or-neither _ _ (or-neither _ _ (A .each p l .entries) .1) .1 in
+      let many : quorum n ≤ countTo r 31 = ltb-false _ _ (and-false _ _ fits (lt-ltb _ _ h)) in
       let width : n + (31 - n) ≡ 31 = omega (arith, A .few) in
-      let same : countTo (refers (at vs p)) 31 ≡ countTo (refers (at vs p)) n = subst (λ k. countTo (refers (at vs p)) k ≡ countTo (refers (at vs p)) n) width (count-cut (refers (at vs p)) n (31 - n) past) in
+      let same : countTo r 31 ≡ countTo r n = subst (λ k. countTo r k ≡ countTo r n) width (count-cut r n (31 - n) past) in
       omega (arith, many, same)
     where
       past : (i : ℕ) → n ≤ i → i < n + (31 - n) → refers (at vs p) i ≡ false

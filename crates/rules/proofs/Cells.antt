@@ -15,7 +15,9 @@ said-cell skipped = refl
 said-cell (committed p) = let e : 2 + p ≡ suc (suc p) = omega arith in rw e
 
 pub cell-at : (ds : List (Decision ℕ)) (old : List ℕ) (k : ℕ) → k < length ds → said (getD (writtenOver (map cell ds) old) k 0) ≡ decisionAt ds k
-cell-at ds old k h = rw (List·getD-append (map cell ds) (drop (length (map cell ds)) old) 0 k (simp length-map h), List·getD-map cell ds k undecided) (said-cell (decisionAt ds k))
+cell-at ds old k h =
+    rw (List·getD-append (map cell ds) (drop (length (map cell ds)) old) 0 k (simp length-map h), List·getD-map cell ds k undecided)
+    (said-cell (decisionAt ds k))
 
 pub place-at : (ps old : List ℕ) (k : ℕ) → k < length ps → getD (writtenOver ps old) k 0 ≡ getD ps k 0
 place-at ps old k h = List·getD-append ps (drop (length ps) old) 0 k h

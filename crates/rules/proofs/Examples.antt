@@ -24,7 +24,10 @@ unfolding printed settle lentCheck settleIf
 by-parts t a c h l e f =
     let prints = then-passed _ _ (when-no _ _ h) ∙ c in
     let fits = then-passed _ _ c ∙ when-no _ _ l in
-    λ i. record { prints = (ap (λ k. lines k (boxSetting 4) 4 (vertices first t)) prints ∙ e) i; settles = (ap (λ k. settleIf k (boxSetting 4) 4 (vertices first t) nines) fits ∙ f) i }
+    λ i. record {
+      prints = (ap (λ k. lines k (boxSetting 4) 4 (vertices first t)) prints ∙ e) i;
+      settles = (ap (λ k. settleIf k (boxSetting 4) 4 (vertices first t) nines) fits ∙ f) i;
+    }
 
 ex1 : answer p1 ≡ a1
 unfolding rules-open p1

@@ -32,7 +32,8 @@ module _ {n : ℕ} {vs : List Vertex} (A : Accepted n vs) where
   pub highest-most : (p : ℕ) → p < length vs → at vs p .round ≤ highest vs
   unfolding highest
   highest-most p l =
-      ⊎-elim (λ e. let q : at vs p .round ≡ at vs (pred (length vs)) .round = ap (λ (k : ℕ). at vs k .round) e in omega arith) (λ h. below-round _ _ (rising A p (pred (length vs)) h (omega arith)))
+      ⊎-elim (λ e. let q : at vs p .round ≡ at vs (pred (length vs)) .round = ap (λ (k : ℕ). at vs k .round) e in omega arith)
+      (λ h. below-round _ _ (rising A p (pred (length vs)) h (omega arith)))
       (eq-or-lt-of-le {n = p} {m = pred (length vs)} (omega arith))
 
   pub highest-pos : 0 < length vs → 0 < highest vs
@@ -64,7 +65,9 @@ module _ {n : ℕ} {vs : List Vertex} (A : Accepted n vs) where
       three-up (skips none b k) = absurd (skipped-apart e k)
       three-up (blocked none t l f g k) = absurd (committed-decided e k)
       three-up (past h k) = absurd (committed-decided e k)
-      three-up (through none t a l f g k) = by-test (leb (highest vs) t) (λ h. absurd (committed-decided g (decisions-past (boxSetting n) n vs t (leb-true _ _ h)))) (λ h. omega (arith, leb-false (highest vs) t h))
+      three-up (through none t a l f g k) =
+          by-test (leb (highest vs) t) (λ h. absurd (committed-decided g (decisions-past (boxSetting n) n vs t (leb-true _ _ h))))
+          (λ h. omega (arith, leb-false (highest vs) t h))
 
   -- a round that is decided has records one round up
   pub decided-up : (s : ℕ) → (decisionAt rounds s ≡ undecided → ⊥) → s + 2 ≤ highest vs

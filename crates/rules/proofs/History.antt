@@ -31,7 +31,8 @@ pub record Follows (step : StepRule) (vs : List Vertex) (Step : Name → Name �
   pub to : (q : ℕ) (y : Name) → q < length vs → step (at vs q) y ≡ true → Step (nameOf (at vs q)) y
   pub fro : (q : ℕ) (y : Name) → q < length vs → Step (nameOf (at vs q)) y → step (at vs q) y ≡ true
 
-module _ {n : ℕ} {vs : List Vertex} {step : StepRule} {Step : Name → Name → Type 0} (A : Accepted n vs) (down : Downward step vs) (F : Follows step vs Step) where
+module _ {n : ℕ} {vs : List Vertex} {step : StepRule} {Step : Name → Name → Type 0}
+    (A : Accepted n vs) (down : Downward step vs) (F : Follows step vs Step) where
   -- the vertex at q is reached from the one at a
   abbrev pub ReachesAt : ℕ → ℕ → Type 0
   ReachesAt a q = Reaches Step (nameOf (at vs a)) (nameOf (at vs q))

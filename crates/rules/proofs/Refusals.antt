@@ -76,7 +76,8 @@ then-assoc (refused k vs) c d = refl
 -- ---- what code that asks for an answer and goes on knows
 
 -- an answer that is handed on
-pub hands-on : {A : Type 0} {x : Checked} {r : Refusal} (c : Told (Unit {0})) (d : Told A) → checkTells x ≡ c → x ≡ checked.Refused r → refusalTells r ≡ c then d
+pub hands-on : {A : Type 0} {x : Checked} {r : Refusal} (c : Told (Unit {0})) (d : Told A) → checkTells x ≡ c → x ≡ checked.Refused r
+    → refusalTells r ≡ c then d
 hands-on c d e f = sym (then-refused c d (sym e ∙ ap checkTells f))
 
 -- an answer after which it goes on

@@ -109,14 +109,16 @@ pub certifies-is : (n : ℕ) (vs : List Vertex) (w b : Vertex) → certifies n v
 unfolding certifies
 certifies-is n vs w b e = record {
   two-up = eqb-true _ _ (and-left _ _ e);
-  backed = many-map n (quorum n) _ _ (λ i li t. record { filled = eqb-false _ _ (not-true _ (and-left _ _ t)); supporter = and-right _ _ t }) (many-test n (quorum n) _ (leb-true _ _ (and-right _ _ e)));
+  backed =
+      many-map n (quorum n) _ _ (λ i li t. record { filled = eqb-false _ _ (not-true _ (and-left _ _ t)); supporter = and-right _ _ t })
+      (many-test n (quorum n) _ (leb-true _ _ (and-right _ _ e)));
 }
 
 pub is-certifies : (n : ℕ) (vs : List Vertex) (w b : Vertex) → Certifies n vs w b → certifies n vs w b ≡ true
 unfolding certifies
 is-certifies n vs w b c =
-    let enough : quorum n ≤ countTo (λ i. refers w i and supports (vertexOf vs (entryName w i)) b) n = many-count n (quorum n) _ (many-map n (quorum n) (Backs vs w b) _ (λ i li k. and-true _ _ (is-not (ne-eqb _ _ (k .filled))) (k .supporter)) (c .backed)) in
-    and-true _ _ (eq-eqb _ _ (c .two-up)) (le-leb _ _ enough)
+    let backs = many-map n (quorum n) (Backs vs w b) _ (λ i li k. and-true _ _ (is-not (ne-eqb _ _ (k .filled))) (k .supporter)) (c .backed) in
+    and-true _ _ (eq-eqb _ _ (c .two-up)) (le-leb _ _ (many-count n (quorum n) _ backs))
 
 -- ---- the direct rules, as statements about authors
 

@@ -14,5 +14,10 @@ use Rattle.rules.specs.Settlement.{equivocates, equivocators, takenBytes
 use Rattle.rules.specs.Program.{bytesOf, spell, decimal, line, lineX, lineS, lineR, lineV, linesR, linesV, lines, printed}
 
 unfoldable pub rules-open : Unit {0}
-unfolding _and_ _or_ sumTo countTo anyTo firstTo filterTo tabulate member isCount leader number recordAt decode sumOf vertices sameName below find vertexOf _when_ _then_ eachTo sumDiffers fieldsWrong notAbove entriesWrong notEarlier roundAbove checkRecord checkTable check lookupCheck lookupPlace lookupBegin lookupLength tell references supports blank certifies authorsWith directCommit directSkip sweep history highest inSlot qualifies lowest choose certifiedIn anchor throughAnchor indirect decide decideLast decisions notYet writeFrom order firstUndecided equivocates equivocators takenBytes tooShort countsOf settled settleIf lentCheck settle bytesOf spell decimal line lineX lineS lineR lineV linesR linesV lines printed
+unfolding _and_ _or_ sumTo countTo anyTo firstTo filterTo tabulate member isCount leader number recordAt decode sumOf vertices sameName below find vertexOf
+    _when_ _then_ eachTo sumDiffers fieldsWrong notAbove entriesWrong notEarlier roundAbove checkRecord checkTable check
+    lookupCheck lookupPlace lookupBegin lookupLength tell references supports blank certifies authorsWith directCommit directSkip sweep history
+    highest inSlot qualifies lowest choose certifiedIn anchor throughAnchor indirect decide decideLast decisions notYet writeFrom order firstUndecided
+    equivocates equivocators takenBytes tooShort countsOf settled settleIf lentCheck settle
+    bytesOf spell decimal line lineX lineS lineR lineV linesR linesV lines printed
 rules-open = tt

@@ -73,7 +73,9 @@ module _ (t : List ℕ) (x : Name) (r : Rise t (records first t)) where
       none h = found k (le-refl k) h (λ l. absurd (omega arith))
 
       other : m < k → sameName (nameAt t m) x ≡ false → findBelow t k x ≡ find (vertices first t) x
-      other l s = found-other t k x m refl l s ∙ none (λ i h. by-test (ltb i m) (λ e. before-place i (ltb-true i m e)) (λ e. after-place i (ltb-false i m e) h s))
+      other l s =
+          found-other t k x m refl l s
+          ∙ none (λ i h. by-test (ltb i m) (λ e. before-place i (ltb-true i m e)) (λ e. after-place i (ltb-false i m e) h s))
 
       past : k ≤ m → findBelow t k x ≡ find (vertices first t) x
       past l = found-past t k x m refl l ∙ none (λ i h. before-place i (omega arith))

@@ -50,7 +50,8 @@ higher x y s b = by-order (below-total y x)
     by-order (inr (inl e)) = absurd (not-both (name-same y x e) s)
     by-order (inr (inr h)) = h
 
-module _ (t : List ℕ) (p : ℕ) (x : Name) (r : Rise t p) (lo hi m : ℕ) (is : m ≡ lo + (hi - lo) / 2) (l : lo < hi) (S : Searched t p x lo hi) (other : sameName (nameAt t m) x ≡ false) where
+module _ (t : List ℕ) (p : ℕ) (x : Name) (r : Rise t p) (lo hi m : ℕ) (is : m ≡ lo + (hi - lo) / 2) (l : lo < hi)
+    (S : Searched t p x lo hi) (other : sameName (nameAt t m) x ≡ false) where
   m-low : m < p
   m-low = omega (arith, S .within)
 

@@ -121,7 +121,9 @@ step : (p : ℕ → Bool) (k : ℕ) → Falls p k → (lo hi up down : ℕ) → 
     → (Between p k (lo + (hi - lo) / 2 + 1) hi → Between p k up up) → (Between p k lo (lo + (hi - lo) / 2) → Between p k down down)
     → let x = cond (ltb lo hi) (cond (p (lo + (hi - lo) / 2)) up down) lo in Between p k x x
 step p k f lo hi up down b go-up go-down =
-    by-test (ltb lo hi) (λ e. rw e (by-test (p m) (λ t. rw t (go-up (upper (ltb-true lo hi e) t))) (λ t. rw t (go-down (lower (ltb-true lo hi e) t))))) (λ e. rw e (stop (ltb-false lo hi e)))
+    by-test (ltb lo hi)
+    (λ e. rw e (by-test (p m) (λ t. rw t (go-up (upper (ltb-true lo hi e) t))) (λ t. rw t (go-down (lower (ltb-true lo hi e) t)))))
+    (λ e. rw e (stop (ltb-false lo hi e)))
   where
     m : ℕ
     m = lo + (hi - lo) / 2
@@ -138,19 +140,33 @@ step p k f lo hi up down b go-up go-down =
     lower l t = record { ordered = omega arith; within = omega (arith, b .within); holds = b .holds; fails = λ i li lk. f m i li lk t }
 
     stop : hi ≤ lo → Between p k lo lo
-    stop l = record { ordered = le-refl lo; within = omega (arith, b .ordered, b .within); holds = b .holds; fails = λ i li lk. b .fails i (omega (arith, b .ordered)) lk }
+    stop l = record {
+      ordered = le-refl lo;
+      within = omega (arith, b .ordered, b .within);
+      holds = b .holds;
+      fails = λ i li lk. b .fails i (omega (arith, b .ordered)) lk;
+    }
 
 halves-between : (p : ℕ → Bool) (k : ℕ) → Falls p k → (j lo hi : ℕ) → hi - lo ≤ j → Between p k lo hi → Between p k (halves p j lo hi) (halves p j lo hi)
 unfolding halves
-halves-between p k f zero lo hi h b = record { ordered = le-refl lo; within = omega (arith, b .ordered, b .within); holds = b .holds; fails = λ i l l′. b .fails i (omega (arith, b .ordered)) l′ }
+halves-between p k f zero lo hi h b = record {
+  ordered = le-refl lo;
+  within = omega (arith, b .ordered, b .within);
+  holds = b .holds;
+  fails = λ i l l′. b .fails i (omega (arith, b .ordered)) l′;
+}
 halves-between p k f (suc j) lo hi h b =
     let m : ℕ = lo + (hi - lo) / 2 in
-    step p k f lo hi (halves p j (m + 1) hi) (halves p j lo m) b (λ b′. halves-between p k f j (m + 1) hi (omega arith) b′) (λ b′. halves-between p k f j lo m (omega arith) b′)
+    step p k f lo hi (halves p j (m + 1) hi) (halves p j lo m) b
+    (λ b′. halves-between p k f j (m + 1) hi (omega arith) b′)
+    (λ b′. halves-between p k f j lo m (omega arith) b′)
 
 -- the search finds the first at which the test fails
 pub halves-first : (p : ℕ → Bool) (k : ℕ) → Falls p k → halves p k 0 k ≡ firstTo (λ i. not (p i)) k
 halves-first p k f =
-    sym (first-by _ k _ (is (halves-between p k f k 0 k (omega arith) (record { ordered = zero-le; within = le-refl k; holds = λ i l. absurd (not-suc-le-zero l); fails = λ i l l′. absurd (omega arith) }))))
+    let all : Between p k 0 k =
+    record { ordered = zero-le; within = le-refl k; holds = λ i l. absurd (not-suc-le-zero l); fails = λ i l l′. absurd (omega arith) } in
+    sym (first-by _ k _ (is (halves-between p k f k 0 k (omega arith) all)))
   where
     is : Between p k (halves p k 0 k) (halves p k 0 k) → First (λ i. not (p i)) k (halves p k 0 k)
     is b = record { within = b .within; before = λ i l. is-not-true (b .holds i l); hit = λ l. is-not (b .fails _ (le-refl _) l) }

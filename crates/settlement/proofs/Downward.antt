@@ -58,7 +58,8 @@ pub record Begun (step : StepRule) (vs : List Vertex) (a : ℕ) (m : List ℕ) :
   pub leader : (getD m a 0 ≡ 1) ⊎ (getD m a 0 ≡ 2)
   pub closed : (p q : ℕ) → p < length vs → q < length vs → getD m p 0 ≡ 1 → step (at vs p) (nameOf (at vs q)) ≡ true → getD m q 0 ≡ 1
 
-module _ {step : StepRule} {vs : List Vertex} (a : ℕ) (l : a < length vs) (m : List ℕ) (room : length vs ≤ length m) (T : WrittenSoFar step vs m) (low : ℕ) (m′ : List ℕ) (one : MarkedOne a a m low m′) where
+module _ {step : StepRule} {vs : List Vertex} (a : ℕ) (l : a < length vs) (m : List ℕ) (room : length vs ≤ length m)
+    (T : WrittenSoFar step vs m) (low : ℕ) (m′ : List ℕ) (one : MarkedOne a a m low m′) where
   -- the leader alone may have changed
   same-other : (q : ℕ) → q ≢ a → getD m′ q 0 ≡ getD m q 0
   same-other q d = ap (λ b. getD b q 0) (one .bytes) ∙ getD-set-other m a q _ 0 d
@@ -103,7 +104,8 @@ module _ {step : StepRule} {vs : List Vertex} (a : ℕ) (l : a < length vs) (m :
     none-below = D .none-below;
   }
 
-module _ {n : ℕ} {vs : List Vertex} {step : StepRule} (A : Accepted n vs) (W : Walks step vs) (a : ℕ) (l : a < length vs) (m : List ℕ) (room : length vs ≤ length m) (B : Begun step vs a m) where
+module _ {n : ℕ} {vs : List Vertex} {step : StepRule} (A : Accepted n vs) (W : Walks step vs) (a : ℕ) (l : a < length vs)
+    (m : List ℕ) (room : length vs ≤ length m) (B : Begun step vs a m) where
   told-start : (q : ℕ) → q < length vs → dueFrom step vs a (a + 1) m q ≡ getD m q 0
   told-start q lq = rw (add-one a, marked-start A W a l q) (by-test (eqb q a) (λ e. rw e (leads (eqb-true q a e))) (λ e. rw e (other (eqb-false q a e))))
     where

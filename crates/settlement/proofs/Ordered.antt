@@ -156,7 +156,8 @@ upto-start C n vs o m l z = record {
   kept-places = refl;
 }
 
-module _ {C : Setting} {n : ℕ} {vs : List Vertex} {o m : List ℕ} {s count : ℕ} {o′ m′ : List ℕ} (A : Accepted n vs) (W : Walks (C .step) vs) (room : length vs ≤ length m) (wide : length vs ≤ length o) (U : Upto C n vs o m s count o′ m′) where
+module _ {C : Setting} {n : ℕ} {vs : List Vertex} {o m : List ℕ} {s count : ℕ} {o′ m′ : List ℕ} (A : Accepted n vs) (W : Walks (C .step) vs)
+    (room : length vs ≤ length m) (wide : length vs ≤ length o) (U : Upto C n vs o m s count o′ m′) where
   abbrev w : List ℕ
   w = U .so-far
 
@@ -195,7 +196,8 @@ module _ {C : Setting} {n : ℕ} {vs : List Vertex} {o m : List ℕ} {s count : 
   }
 
   -- it is committed with the vertex at a, whose history is written
-  module _ (a : ℕ) (la : a < length vs) (l : s < length (decisions C n vs)) (e : decisionAt ds s ≡ committed a) (count′ : ℕ) (o″ m″ : List ℕ) (L : Led (C .step) vs a count o′ m′ count′ o″ m″) where
+  module _ (a : ℕ) (la : a < length vs) (l : s < length (decisions C n vs)) (e : decisionAt ds s ≡ committed a)
+      (count′ : ℕ) (o″ m″ : List ℕ) (L : Led (C .step) vs a count o′ m′ count′ o″ m″) where
     abbrev belongs : ℕ → Bool
     belongs q = getD (history (C .step) vs a) q false
 
@@ -262,7 +264,9 @@ module _ {C : Setting} {n : ℕ} {vs : List Vertex} {o m : List ℕ} {s count : 
       bytes = bytes-next;
       within = λ q t. ⊎-elim (λ h. U .within q h) (λ h. omega (arith, history-low A W a la q h)) (or-cases _ _ (sym (member-next q) ∙ t));
       closed = λ p q lp lq t r.
-          member-next q ∙ ⊎-elim (λ h. or-left _ _ (U .closed p q lp lq h r)) (λ h. or-right _ _ (history-step A W a la p q lq h r)) (or-cases _ _ (sym (member-next p) ∙ t));
+          member-next q
+          ∙ ⊎-elim (λ h. or-left _ _ (U .closed p q lp lq h r)) (λ h. or-right _ _ (history-step A W a la p q lq h r))
+          (or-cases _ _ (sym (member-next p) ∙ t));
       once = once-next;
       kept = ap length bytes-next ∙ over-length _ (length vs) m room;
       kept-places = ap length places-next ∙ written-length next o (omega (arith, once-next, count-low (λ q. member q next) (length vs)));
@@ -275,13 +279,16 @@ taken-over : (w : List ℕ) (k : ℕ) (old : List ℕ) → bytesOver (λ q. bit 
 unfolding bytesOver takenBytes
 taken-over w k old = rw (length-tabulate (λ q. bit (member q w)) k)
 
-module _ {C : Setting} {n : ℕ} {vs : List Vertex} {o m₀ m : List ℕ} {s count : ℕ} {o′ m′ : List ℕ} (cleared : m ≡ bytesOver (λ q. 0) (length vs) m₀) (U : Upto C n vs o m s count o′ m′) where
+module _ {C : Setting} {n : ℕ} {vs : List Vertex} {o m₀ m : List ℕ} {s count : ℕ} {o′ m′ : List ℕ}
+    (cleared : m ≡ bytesOver (λ q. 0) (length vs) m₀) (U : Upto C n vs o m s count o′ m′) where
   ordered : writeFrom (C .step) vs (U .so-far) (drop s (decisions C n vs)) ≡ U .so-far → Ordered C n vs o m₀ count o′ m′
   ordered e =
       let all : U .so-far ≡ order C n vs = sym e ∙ U .rest in
       record {
         places = U .places ∙ ap (λ x. writtenOver x o) all;
-        bytes = U .bytes ∙ ap (bytesOver _ (length vs)) cleared ∙ over-over _ (length vs) m₀ _ ∙ ap (λ x. bytesOver (λ q. bit (member q x)) (length vs) m₀) all ∙ taken-over (order C n vs) (length vs) m₀;
+        bytes =
+            U .bytes ∙ ap (bytesOver _ (length vs)) cleared ∙ over-over _ (length vs) m₀ _
+            ∙ ap (λ x. bytesOver (λ q. bit (member q x)) (length vs) m₀) all ∙ taken-over (order C n vs) (length vs) m₀;
         counted = U .counted ∙ ap length all;
       }
 

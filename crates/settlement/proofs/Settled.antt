@@ -57,8 +57,16 @@ further s d ds e closed F = record {
 
 first-open-is : (s : ℕ) (ds : List (Decision ℕ)) → FirstOpen s ds
 unfolding firstUndecided
-first-open-is s [] = record { place = 0; is = omega arith; first-open = record { within = le-refl 0; before = λ i l. absurd (not-suc-le-zero l); hit = λ l. absurd (not-suc-le-zero l) } }
-first-open-is s (undecided ∷ ds) = record { place = 0; is = omega arith; first-open = record { within = omega arith; before = λ i l. absurd (not-suc-le-zero l); hit = λ l. refl } }
+first-open-is s [] = record {
+  place = 0;
+  is = omega arith;
+  first-open = record { within = le-refl 0; before = λ i l. absurd (not-suc-le-zero l); hit = λ l. absurd (not-suc-le-zero l) };
+}
+first-open-is s (undecided ∷ ds) = record {
+  place = 0;
+  is = omega arith;
+  first-open = record { within = omega arith; before = λ i l. absurd (not-suc-le-zero l); hit = λ l. refl };
+}
 first-open-is s (skipped ∷ ds) = further s skipped ds refl refl (first-open-is (suc s) ds)
 first-open-is s (committed a ∷ ds) = further s (committed a) ds refl (ne-eqb (2 + a) 0 (λ e. omega arith)) (first-open-is (suc s) ds)
 
@@ -100,7 +108,9 @@ module _ (n : ℕ) (t : List ℕ) (b : Buffers) where
   pub refused-to : (x : Settlement) (r : Refusal) (cells taken : List ℕ) → DecidesTo n t b (Refused r) cells taken → x .outcome ≡ outcome.Refused r
       → SettlesTo n t b x (lent cells (b .order) taken)
   unfolding settle settleIf cellsAfter takenAfter
-  refused-to x r cells taken D o = let e = sym (D .answer) in record { outcome = rw e (ap outcomeTells o); cells = rw e (D .in-cells); order = rw e; taken = rw e (D .in-taken) }
+  refused-to x r cells taken D o =
+      let e = sym (D .answer) in
+      record { outcome = rw e (ap outcomeTells o); cells = rw e (D .in-cells); order = rw e; taken = rw e (D .in-taken) }
 
   -- a settled table
   module _ (cells taken : List ℕ) (D : DecidesTo n t b Passed cells taken) where
@@ -166,14 +176,24 @@ module _ (n : ℕ) (t : List ℕ) (b : Buffers) where
     unfolding takenBytes bytesOver
     past-records w =
         let same : length (takenBytes w (length vs)) ≡ records first t = length-tabulate _ (length vs) ∙ vertices-length first t in
-        ap (λ d. takenBytes w (length vs) ++ d) (ap (λ m. drop (length (takenBytes w (length vs))) m) untaken ∙ drop-at (tabulate (λ p. 0) (records first t)) (drop (records first t) (b .taken)) _ (length-tabulate _ (records first t) ∙ sym same) ∙ ap (λ j. drop j (b .taken)) (sym same))
+        ap (λ d. takenBytes w (length vs) ++ d)
+        (ap (λ m. drop (length (takenBytes w (length vs))) m) untaken
+        ∙ drop-at (tabulate (λ p. 0) (records first t)) (drop (records first t) (b .taken)) _ (length-tabulate _ (records first t) ∙ sym same)
+        ∙ ap (λ j. drop j (b .taken)) (sym same))
 
     pub settled-to : (x : Settlement) (order′ taken′ : List ℕ) (counts : Counts) → x .outcome ≡ outcome.Settled counts
         → counts ≡ countsOf n vs ds (order (boxSetting n) n vs)
         → order′ ≡ writtenOver (order (boxSetting n) n vs) (b .order) → taken′ ≡ writtenOver (takenBytes (order (boxSetting n) n vs) (length vs)) taken
         → SettlesTo n t b x (lent cells order′ taken′)
     unfolding settle settleIf settled order
-    settled-to x order′ taken′ counts e q e2 e3 = let fits = sym (D .answer) in record { outcome = rw fits (ap outcomeTells e ∙ ap gives q); cells = rw fits decided-cells; order = rw fits e2; taken = rw fits (e3 ∙ past-records _) }
+    settled-to x order′ taken′ counts e q e2 e3 =
+        let fits = sym (D .answer) in
+        record {
+          outcome = rw fits (ap outcomeTells e ∙ ap gives q);
+          cells = rw fits decided-cells;
+          order = rw fits e2;
+          taken = rw fits (e3 ∙ past-records _);
+        }
 
 -- the counts, one by one
 pub counts-are : (n : ℕ) (vs : List Vertex) (ds : List (Decision ℕ)) (w : List ℕ) (c : Counts) → c .records ≡ length vs → c .highest ≡ highest vs

@@ -139,7 +139,8 @@ done-bit true h = refl
 done-bit false true = refl
 done-bit false false = refl
 
-module _ {n : ℕ} {vs : List Vertex} {step : StepRule} (A : Accepted n vs) (W : Walks step vs) (a : ℕ) (l : a < length vs) (m : List ℕ) (room : length vs ≤ length m) (low : ℕ) (m₁ : List ℕ) (D : MarkedDown step vs a m low m₁) where
+module _ {n : ℕ} {vs : List Vertex} {step : StepRule} (A : Accepted n vs) (W : Walks step vs) (a : ℕ) (l : a < length vs)
+    (m : List ℕ) (room : length vs ≤ length m) (low : ℕ) (m₁ : List ℕ) (D : MarkedDown step vs a m low m₁) where
   abbrev belongs : ℕ → Bool
   belongs q = getD (history step vs a) q false
 
@@ -160,18 +161,25 @@ module _ {n : ℕ} {vs : List Vertex} {step : StepRule} (A : Accepted n vs) (W :
   -- there is room for what is due
   pub led-room : (count : ℕ) → count ≡ countTo (written m) (length vs) → count + countTo (due m₁) (a + 1) ≤ length vs
   led-room count e =
-      omega (arith, count-up (due m₁) (a + 1) (length vs) (omega arith), count-apart (written m) (due m₁) (length vs) (λ q lq w d. not-both w (not-true _ (and-right _ _ (sym (due-is-fresh q lq) ∙ d)))))
+      let apart =
+      count-apart (written m) (due m₁) (length vs) (λ q lq w d. not-both w (not-true _ (and-right _ _ (sym (due-is-fresh q lq) ∙ d)))) in
+      omega (arith, count-up (due m₁) (a + 1) (length vs) (omega arith), apart)
 
   pub led : (count r : ℕ) (o o′ m₂ : List ℕ) → o′ ≡ placesOver count (filterTo (due m₁) (a + 1)) o → m₂ ≡ bytesOver (doneAt m₁) (a + 1) m₁
       → r ≡ count + countTo (due m₁) (a + 1) → Led step vs a count o m r o′ m₂
   led count r o o′ m₂ p b e = record {
     places = p ∙ ap (λ w. placesOver count w o) due-list;
-    bytes = b ∙ whole ∙ ap (bytesOver (doneAt m₁) (length vs)) (D .bytes) ∙ over-over _ (length vs) m _ ∙ over-same _ (length vs) m _ (λ q lq. ap (λ x. cond (eqb x 2) 1 x) (marked-byte q lq) ∙ done-bit (written m q) (belongs q));
+    bytes =
+        b ∙ whole ∙ ap (bytesOver (doneAt m₁) (length vs)) (D .bytes) ∙ over-over _ (length vs) m _
+        ∙ over-same _ (length vs) m _ (λ q lq. ap (λ x. cond (eqb x 2) 1 x) (marked-byte q lq) ∙ done-bit (written m q) (belongs q));
     counted = e ∙ ap (λ k. count + k) (sym (filter-length (due m₁) (a + 1)) ∙ ap length due-list);
   }
     where
       past : (q : ℕ) → a + 1 ≤ q → q < length vs → doneAt m₁ q ≡ getD m₁ q 0
-      past q h lq = let none : due m₁ q ≡ false = failed _ (λ t. not-both (and-left _ _ (sym (due-is-fresh q lq) ∙ t)) (history-past A W a l q (omega arith))) in rw none
+      past q h lq =
+          let none : due m₁ q ≡ false =
+          failed _ (λ t. not-both (and-left _ _ (sym (due-is-fresh q lq) ∙ t)) (history-past A W a l q (omega arith))) in
+          rw none
 
       whole : bytesOver (doneAt m₁) (a + 1) m₁ ≡ bytesOver (doneAt m₁) (length vs) m₁
       whole =

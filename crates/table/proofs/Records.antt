@@ -35,12 +35,14 @@ unfolding checkRecord
 rows n t p = simp then-assoc
 
 -- the sum of the bytes that are lent, against the one that the vertex carries
-pub sum-is : (n : ℕ) (t : List ℕ) (p : ℕ) (v : Vertex) (b : List ℕ) → Reached n t p v → b ≡ recordAt first t p → not (eqb (sumOf first b) (v .sum)) ≡ sumDiffers first t (vertices first t) p
+pub sum-is : (n : ℕ) (t : List ℕ) (p : ℕ) (v : Vertex) (b : List ℕ) → Reached n t p v → b ≡ recordAt first t p
+    → not (eqb (sumOf first b) (v .sum)) ≡ sumDiffers first t (vertices first t) p
 unfolding sumDiffers
 sum-is n t p v b R e = rw (R .is, e)
 
 -- the record that is read is reached once those before it have passed
-pub reached : (n : ℕ) (t : List ℕ) (p : ℕ) (v : Vertex) → isCount n ≡ true → p < records first t → v ≡ decode first (recordAt first t p) → eachTo (checkAt n t) p ≡ passed → Reached n t p v
+pub reached : (n : ℕ) (t : List ℕ) (p : ℕ) (v : Vertex) → isCount n ≡ true → p < records first t → v ≡ decode first (recordAt first t p)
+    → eachTo (checkAt n t) p ≡ passed → Reached n t p v
 reached n t p v count w e before = record { count = count; within = w; is = e ∙ sym (vertices-at first t p w); before = before }
 
 -- and has reached check 8 once it has passed the rows that need no search

@@ -21,7 +21,8 @@ use Rattle.tally.specs.Marks.{countMark, enoughOf}
 abbrev pub enoughAt : List ℕ → ℕ → ℕ → Bool
 enoughAt marks q i = not (eqb (getD marks i 0) 0) and leb q (countMark marks (getD marks i 0))
 
-pub enough-found : (marks : List ℕ) (q i : ℕ) → i < 31 → ((j : ℕ) → j < i → enoughAt marks q j ≡ false) → enoughAt marks q i ≡ true → enoughOf marks q ≡ getD marks i 0
+pub enough-found : (marks : List ℕ) (q i : ℕ) → i < 31 → ((j : ℕ) → j < i → enoughAt marks q j ≡ false) → enoughAt marks q i ≡ true
+    → enoughOf marks q ≡ getD marks i 0
 unfolding enoughOf
 enough-found marks q i l b h =
     let e : firstTo (enoughAt marks q) 31 ≡ i = first-by (enoughAt marks q) 31 i (record { within = omega arith; before = b; hit = λ _. h }) in
@@ -30,7 +31,8 @@ enough-found marks q i l b h =
 pub enough-none : (marks : List ℕ) (q : ℕ) → ((j : ℕ) → j < 31 → enoughAt marks q j ≡ false) → enoughOf marks q ≡ 0
 unfolding enoughOf
 enough-none marks q b =
-    let e : firstTo (enoughAt marks q) 31 ≡ 31 = first-by (enoughAt marks q) 31 31 (record { within = le-refl 31; before = b; hit = λ l. absurd (omega arith) }) in
+    let e : firstTo (enoughAt marks q) 31 ≡ 31 =
+    first-by (enoughAt marks q) 31 31 (record { within = le-refl 31; before = b; hit = λ l. absurd (omega arith) }) in
     rw e
 
 -- one turn: the mark at i is none of which there are enough

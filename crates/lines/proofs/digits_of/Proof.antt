@@ -32,7 +32,8 @@ loop-again c =
       omega arith,
       simp length-set (omega arith),
       tenth (l .loop .front) (l .loop .start) p (l .loop .inv .2),
-      digit-put (l .loop .bytes) (l .loop .front) (l .loop .start) (c .digit-of2 .result) (omega arith) p (omega arith) (c .digit-of2 .ensures) ∙ l .loop .inv .3,
+      digit-put (l .loop .bytes) (l .loop .front) (l .loop .start) (c .digit-of2 .result) (omega arith) p (omega arith) (c .digit-of2 .ensures)
+          ∙ l .loop .inv .3,
     )
 
 returns : tie.Need-returns Inv-loop μ-loop

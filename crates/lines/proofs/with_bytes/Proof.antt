@@ -1,4 +1,5 @@
--- `lines::with_bytes` meets its contract. The loop's invariant: the array is the line's, with the first i bytes of w pasted at its end. The measure is what is left of w.
+-- `lines::with_bytes` meets its contract. The loop's invariant: the array is the line's, with the first i bytes of w pasted at its end.
+-- The measure is what is left of w.
 -- Assumes nothing.
 use Prim.Native.Nat.{_+_, _-_, _≤_}
 use mathlib.Core.Path.{_≡_, refl, _∙_}

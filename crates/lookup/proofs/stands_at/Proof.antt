@@ -14,21 +14,24 @@ returns : tie.Need-returns
 unfolding lookupPlace lookupCheck
 returns c =
     let f = c .before .before .before in
-    hands-on (check first (f .before .before .args .n) (f .before .before .args .table .now)) _ (f .check .ensures) (c .before .c .given .1) ∙ sym (then-assoc _ _ _)
+    let a = f .before .before .args in
+    hands-on (check first (a .n) (a .table .now)) _ (f .check .ensures) (c .before .c .given .1) ∙ sym (then-assoc _ _ _)
 
 returns-2 : tie.Need-returns-2
 returns-2 c =
     let r = c .before .before in
     let f = r .before .before .before in
     let a = f .before .before .args in
-    place-found (a .n) (a .table .now) (a .x) (goes-on (f .check .ensures) (r .before .enum-told .given .1)) _ _ (r .records-of .ensures) (c .before .find .ensures) (c .if1 .taken)
+    let passes = goes-on (f .check .ensures) (r .before .enum-told .given .1) in
+    place-found (a .n) (a .table .now) (a .x) passes _ _ (r .records-of .ensures) (c .before .find .ensures) (c .if1 .taken)
 
 returns-3 : tie.Need-returns-3
 returns-3 c =
     let r = c .before .before in
     let f = r .before .before .before in
     let a = f .before .before .args in
-    place-none (a .n) (a .table .now) (a .x) (goes-on (f .check .ensures) (r .before .enum-told .given .1)) _ _ (r .records-of .ensures) (c .before .find .ensures) (c .if1 .left)
+    let passes = goes-on (f .check .ensures) (r .before .enum-told .given .1) in
+    place-none (a .n) (a .table .now) (a .x) passes _ _ (r .records-of .ensures) (c .before .find .ensures) (c .if1 .left)
 
 pub stands-at-spec : {M : Type 1} → statement M
 stands-at-spec =

@@ -31,7 +31,9 @@ loop-again : tie.Need-loop-again Inv-loop μ-loop
 loop-again c =
     let l = c .before .before in
     let b = l .before .before .args .b .now in
-    (omega arith, simp length-set (omega arith), tabulate-fill (reference b) (l .loop .i) (l .loop .refs) (c .u32-at .result) (omega arith) (c .u32-at .ensures) (l .loop .inv .2))
+    let filled =
+    tabulate-fill (reference b) (l .loop .i) (l .loop .refs) (c .u32-at .result) (omega arith) (c .u32-at .ensures) (l .loop .inv .2) in
+    (omega arith, simp length-set (omega arith), filled)
 
 returns : tie.Need-returns Inv-loop μ-loop
 unfolding decode

@@ -17,8 +17,10 @@ returns c =
 
 returns-2 : tie.Need-returns-2
 returns-2 c =
-    let a = c .before .before .before .before .before .before .before .args in
-    c .join-two2 .ensures ∙ two-rest (a .b .now) _ (a .i) _ _ (c .before .before .before .rest .ensures) (c .before .before .byte-at .ensures) (c .before .byte-at2 .ensures)
+    let r = c .before .before .before in
+    let a = r .before .before .before .before .args in
+    c .join-two2 .ensures
+    ∙ two-rest (a .b .now) _ (a .i) _ _ (r .rest .ensures) (c .before .before .byte-at .ensures) (c .before .byte-at2 .ensures)
 
 pub u16-at-spec : {M : Type 1} → statement M
 u16-at-spec =

@@ -17,7 +17,9 @@ returns-2 c =
     let r = c .before .before .before .before .before in
     let a = r .before .before .before .before .args in
     c .join-four2 .ensures
-    ∙ four-rest (a .b .now) _ (a .i) _ _ _ _ (r .rest .ensures) (c .before .before .before .before .byte-at .ensures) (c .before .before .before .byte-at2 .ensures) (c .before .before .byte-at3 .ensures) (c .before .byte-at4 .ensures)
+    ∙ four-rest (a .b .now) _ (a .i) _ _ _ _ (r .rest .ensures)
+    (c .before .before .before .before .byte-at .ensures) (c .before .before .before .byte-at2 .ensures)
+    (c .before .before .byte-at3 .ensures) (c .before .byte-at4 .ensures)
 
 pub u32-at-spec : {M : Type 1} → statement M
 u32-at-spec =

@@ -25,7 +25,9 @@ returns-3 c =
     let n = l .before .before in
     let t = n .before in
     let a = t .before .before .before .before .args in
-    fills-as (round-committed _ (a .round) (a .cell) (n .name-at .result) (t .before .if1 .left) (t .if2 .left) (n .name-at .ensures)) (l .line-committed .ensures)
+    fills-as
+    (round-committed _ (a .round) (a .cell) (n .name-at .result) (t .before .if1 .left) (t .if2 .left) (n .name-at .ensures))
+    (l .line-committed .ensures)
 
 pub round-line-spec : {M : Type 1} → statement M
 round-line-spec =

@@ -33,7 +33,8 @@ returns-3 c =
     let z = h .before .before in
     let a = z .before .before .before .before .before .args in
     fills-as
-    (settled-vertex (a .c) (a .table .now) (a .cells .now) (a .order .now) (a .i) (n .number-at2 .result) (x .name-at .result) (z .if1 .left) (h .if2 .left) (t .if3 .taken) (n .number-at2 .ensures) (x .name-at .ensures))
+    (settled-vertex (a .c) (a .table .now) (a .cells .now) (a .order .now) (a .i) (n .number-at2 .result) (x .name-at .result)
+    (z .if1 .left) (h .if2 .left) (t .if3 .taken) (n .number-at2 .ensures) (x .name-at .ensures))
     (l .line-vertex .ensures)
 
 returns-4 : tie.Need-returns-4

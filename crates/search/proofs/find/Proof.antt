@@ -15,8 +15,9 @@ returns : tie.Need-returns
 returns c =
     let s = c .before in
     let m = s .before .before .before in
-    let a = m .before .before .before .before .args in
-    let k : m .before .smaller .result ≡ min (a .count) (records first (a .table .now)) = rw (← m .before .before .records-of .ensures) (m .before .smaller .ensures) in
+    let f = m .before in
+    let a = f .before .before .before .args in
+    let k : f .smaller .result ≡ min (a .count) (records first (a .table .now)) = rw (← f .before .records-of .ensures) (f .smaller .ensures) in
     let y : s .before .name-at .result ≡ nameAt (a .table .now) (m .place-of .result) = s .before .name-at .ensures ∙ name-at (a .table .now) _ (omega arith) in
     rw (← k)
     (sym (found-here (a .table .now) _ (a .x) _ (m .place-of .ensures) (s .before .before .if1 .taken) (rw (← y, ← s .same .ensures) (c .if2 .taken))))
@@ -25,8 +26,9 @@ returns-2 : tie.Need-returns-2
 returns-2 c =
     let s = c .before in
     let m = s .before .before .before in
-    let a = m .before .before .before .before .args in
-    let k : m .before .smaller .result ≡ min (a .count) (records first (a .table .now)) = rw (← m .before .before .records-of .ensures) (m .before .smaller .ensures) in
+    let f = m .before in
+    let a = f .before .before .before .args in
+    let k : f .smaller .result ≡ min (a .count) (records first (a .table .now)) = rw (← f .before .records-of .ensures) (f .smaller .ensures) in
     let y : s .before .name-at .result ≡ nameAt (a .table .now) (m .place-of .result) = s .before .name-at .ensures ∙ name-at (a .table .now) _ (omega arith) in
     rw (← k)
     (sym (found-other (a .table .now) _ (a .x) _ (m .place-of .ensures) (s .before .before .if1 .taken) (rw (← y, ← s .same .ensures) (c .if2 .left))))
@@ -34,8 +36,9 @@ returns-2 c =
 returns-3 : tie.Need-returns-3
 returns-3 c =
     let m = c .before in
-    let a = m .before .before .before .before .args in
-    let k : m .before .smaller .result ≡ min (a .count) (records first (a .table .now)) = rw (← m .before .before .records-of .ensures) (m .before .smaller .ensures) in
+    let f = m .before in
+    let a = f .before .before .before .args in
+    let k : f .smaller .result ≡ min (a .count) (records first (a .table .now)) = rw (← f .before .records-of .ensures) (f .smaller .ensures) in
     rw (← k) (sym (found-past (a .table .now) _ (a .x) _ (m .place-of .ensures) (c .if1 .left)))
 
 pub find-spec : {M : Type 1} → statement M

@@ -16,7 +16,8 @@ returns-2 : tie.Need-returns-2
 returns-2 c =
     let k = c .before .before in
     let t = k .before .before .args .table .now in
-    ap (λ (x : Name). x .round) (c .name-at .ensures ∙ name-at t _ (omega (arith, k .records-of .ensures))) ∙ sym (highest-last t (k .records-of .result) (k .records-of .ensures) (c .before .if1 .left))
+    ap (λ (x : Name). x .round) (c .name-at .ensures ∙ name-at t _ (omega (arith, k .records-of .ensures)))
+    ∙ sym (highest-last t (k .records-of .result) (k .records-of .ensures) (c .before .if1 .left))
 
 pub highest-of-spec : {M : Type 1} → statement M
 highest-of-spec =

@@ -9,7 +9,9 @@ use Rattle.search.proofs.place.Tie as tie
 
 returns : tie.Need-returns
 returns c =
-    let k : c .before .smaller .result ≡ min (c .before .before .before .before .args .count) (records first (c .before .before .before .before .args .table .now)) = rw (← c .before .before .records-of .ensures) (c .before .smaller .ensures) in
+    let s = c .before in
+    let a = s .before .before .before .args in
+    let k : s .smaller .result ≡ min (a .count) (records first (a .table .now)) = rw (← s .before .records-of .ensures) (s .smaller .ensures) in
     rw (← k) (c .place-of .ensures)
 
 pub place-spec : {M : Type 1} → statement M

@@ -31,19 +31,24 @@ loop-holds c = (omega arith, omega arith, place-start (c .before .args .table .n
 loop-less : tie.Need-loop-less Inv-loop μ-loop
 loop-less c =
     let l = c .before .before .before .before .before in
-    let up = raised-is (c .before .before .below .result) (l .loop .lo) (l .loop .lo + (l .loop .hi - l .loop .lo) / 2) _ (c .before .raised .ensures) (omega arith) in
-    halved (c .before .before .below .result) (l .loop .lo) (l .loop .hi) _ _ _ refl (omega arith) up (c .lowered .ensures) .less
+    let held = c .before .before .below .result in
+    let m = l .loop .lo + (l .loop .hi - l .loop .lo) / 2 in
+    let up = raised-is held (l .loop .lo) m _ (c .before .raised .ensures) (omega arith) in
+    halved held (l .loop .lo) (l .loop .hi) _ _ _ refl (omega arith) up (c .lowered .ensures) .less
 
 loop-again : tie.Need-loop-again Inv-loop μ-loop
 loop-again c =
     let l = c .before .before .before .before .before in
     let a = l .before .before .args in
     let held = c .before .before .below .result in
-    let up = raised-is (c .before .before .below .result) (l .loop .lo) (l .loop .lo + (l .loop .hi - l .loop .lo) / 2) _ (c .before .raised .ensures) (omega arith) in
+    let m = l .loop .lo + (l .loop .hi - l .loop .lo) / 2 in
+    let up = raised-is held (l .loop .lo) m _ (c .before .raised .ensures) (omega arith) in
     let h = halved held (l .loop .lo) (l .loop .hi) _ _ _ refl (omega arith) up (c .lowered .ensures) in
-    let e : held ≡ lower (a .table .now) (a .x) (l .loop .lo + (l .loop .hi - l .loop .lo) / 2) =
+    let e : held ≡ lower (a .table .now) (a .x) m =
     c .before .before .below .ensures ∙ ap (λ y. below y (a .x)) (c .before .before .before .name-at .ensures ∙ name-at (a .table .now) _ (omega arith)) in
-    (h .ordered, omega (arith, h .within), l .loop .inv .2 ∙ halves-turn held (l .loop .lo) (l .loop .hi) _ _ _ refl (omega arith) up (c .lowered .ensures) (lower (a .table .now) (a .x)) e)
+    let turn =
+    halves-turn held (l .loop .lo) (l .loop .hi) _ _ _ refl (omega arith) up (c .lowered .ensures) (lower (a .table .now) (a .x)) e in
+    (h .ordered, omega (arith, h .within), l .loop .inv .2 ∙ turn)
 
 returns : tie.Need-returns Inv-loop μ-loop
 returns c =

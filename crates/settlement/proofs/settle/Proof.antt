@@ -76,7 +76,13 @@ returns-2 c =
     let size : h .highest-of .result ≡ length ds = top ∙ sym (decisions-length (boxSetting n) n vs) in
     let held : (j : ℕ) → j < h .highest-of .result → getD cells j 0 ≡ cell (decisionAt ds j) =
     λ j l. settled.decided n t b cells taken D .in-cells .held j (omega arith) (omega (arith, top)) in
-    let counts : Counts = record { records = r .records-of .result; highest = h .highest-of .result; undecided = f .first-undecided .result; written = w .write-order .result; equivocators = c .equivocators-of .result } in
+    let counts : Counts = record {
+      records = r .records-of .result;
+      highest = h .highest-of .result;
+      undecided = f .first-undecided .result;
+      written = w .write-order .result;
+      equivocators = c .equivocators-of .result;
+    } in
     let O = w .write-order .ensures in
     let are =
     counts-are n vs ds (order (boxSetting n) n vs) counts (r .records-of .ensures ∙ sym (vertices-length first t)) top

@@ -26,9 +26,10 @@ returns-2 c =
     let f = eight .before .before .before .before in
     let g = f .before .before in
     let round = rw (g .pre .is) at (nine .before .round-above .ensures) in
+    let passes = goes-on (f .four-to-seven .ensures) (eight .before .before .enum-told .given .1) in
     c .first-of .ensures
     ∙ rw (eight .row .ensures, eight .before .not-earlier .ensures, nine .row2 .ensures, round)
-    (sym (rows (g .args .n) (g .args .table .now) (g .args .p) ∙ then-passed _ _ (goes-on (f .four-to-seven .ensures) (eight .before .before .enum-told .given .1))))
+    (sym (rows (g .args .n) (g .args .table .now) (g .args .p) ∙ then-passed _ _ passes))
 
 pub check-record-spec : {M : Type 1} → statement M
 check-record-spec =

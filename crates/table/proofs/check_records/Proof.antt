@@ -33,7 +33,9 @@ returns c =
     let r = c .before .before .before in
     let l = r .before .before .before .before in
     let s = l .before .before .before in
-    sym (each-refused (checkAt (s .args .n) (s .args .table .now)) _ _ (l .loop .p) _ (omega (arith, l .before .records-of .ensures)) (l .loop .inv .1) (sym (r .check-record .ensures) ∙ ap checkTells (c .before .c .given .1)))
+    let check = checkAt (s .args .n) (s .args .table .now) in
+    sym (each-refused check _ _ (l .loop .p) _ (omega (arith, l .before .records-of .ensures)) (l .loop .inv .1)
+    (sym (r .check-record .ensures) ∙ ap checkTells (c .before .c .given .1)))
 
 loop-again : tie.Need-loop-again Inv-loop μ-loop
 loop-again c =

@@ -24,8 +24,10 @@ returns c =
     let f = c .before .before .before in
     let three = f .before in
     let two = three .before .before in
-    let told : checkTells (f .first-of .result) ≡ twoAndThree (two .before .before .args .table .now) = f .first-of .ensures ∙ rw (two .row .ensures, three .row2 .ensures, three .before .records-of .ensures) refl in
-    hands-on _ (eachTo (checkAt (two .before .before .args .n) (two .before .before .args .table .now)) _) told (c .before .c .given .1) ∙ then-assoc _ _ _
+    let a = two .before .before .args in
+    let told : checkTells (f .first-of .result) ≡ twoAndThree (a .table .now) =
+    f .first-of .ensures ∙ rw (two .row .ensures, three .row2 .ensures, three .before .records-of .ensures) refl in
+    hands-on _ (eachTo (checkAt (a .n) (a .table .now)) _) told (c .before .c .given .1) ∙ then-assoc _ _ _
 
 returns-2 : tie.Need-returns-2
 unfolding checkTable
@@ -33,7 +35,8 @@ returns-2 c =
     let f = c .before .before .before in
     let three = f .before in
     let two = three .before .before in
-    let told : checkTells (f .first-of .result) ≡ twoAndThree (two .before .before .args .table .now) = f .first-of .ensures ∙ rw (two .row .ensures, three .row2 .ensures, three .before .records-of .ensures) refl in
+    let told : checkTells (f .first-of .result) ≡ twoAndThree (two .before .before .args .table .now) =
+    f .first-of .ensures ∙ rw (two .row .ensures, three .row2 .ensures, three .before .records-of .ensures) refl in
     c .check-records .ensures ∙ sym (then-passed _ _ (goes-on told (c .before .enum-told .given .1))) ∙ then-assoc _ _ _
 
 pub check-table-spec : {M : Type 1} → statement M

@@ -27,7 +27,9 @@ returns-3 c =
     let f = o .before .before .before in
     let a = f .before .before .args in
     let fine : a .v .round ≡ 1 → f .filled .result ≤ 0 = ⊎-elim (λ w r. w .1 .left) (λ w r. absurd (w .left r)) (o .before .if1 .came) in
-    rw (c .quorum-of .ensures) (sym (entries-quorum (a .n) (a .v) (omega arith) _ _ (f .filled .ensures) (o .filled2 .ensures) fine (c .before .before .before .if3 .left) (c .before .if4 .taken)))
+    let high = c .before .before .before .if3 .left in
+    rw (c .quorum-of .ensures)
+    (sym (entries-quorum (a .n) (a .v) (omega arith) _ _ (f .filled .ensures) (o .filled2 .ensures) fine high (c .before .if4 .taken)))
 
 returns-4 : tie.Need-returns-4
 returns-4 c =

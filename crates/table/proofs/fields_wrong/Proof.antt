@@ -28,16 +28,22 @@ returns-3 c =
 returns-4 : tie.Need-returns-4
 unfolding fieldsWrong _or_
 returns-4 c =
-    let s = c .before .before .before .before .before .before .before .before in
+    let three = c .before .before in
+    let two = three .before .before in
+    let one = two .before .before in
+    let s = one .before .before in
     let low : s .args .v .author < s .args .n = c .if4 .taken in
-    rw (eq-eqb _ _ (c .before .before .before .before .before .before .if1 .left), ne-eqb _ _ (c .before .before .before .before .if2 .left), ne-eqb _ _ (c .before .before .if3 .left), lt-leb _ _ low)
+    rw (eq-eqb _ _ (one .if1 .left), ne-eqb _ _ (two .if2 .left), ne-eqb _ _ (three .if3 .left), lt-leb _ _ low)
 
 returns-5 : tie.Need-returns-5
 unfolding fieldsWrong _or_
 returns-5 c =
-    let s = c .before .before .before .before .before .before .before .before in
+    let three = c .before .before in
+    let two = three .before .before in
+    let one = two .before .before in
+    let s = one .before .before in
     let high : s .args .n ≤ s .args .v .author = c .if4 .left in
-    rw (eq-eqb _ _ (c .before .before .before .before .before .before .if1 .left), ne-eqb _ _ (c .before .before .before .before .if2 .left), ne-eqb _ _ (c .before .before .if3 .left), le-leb _ _ high)
+    rw (eq-eqb _ _ (one .if1 .left), ne-eqb _ _ (two .if2 .left), ne-eqb _ _ (three .if3 .left), le-leb _ _ high)
 
 pub fields-wrong-spec : {M : Type 1} → statement M
 fields-wrong-spec = tie.close (tie.spec returns returns-2 returns-3 returns-4 returns-5)

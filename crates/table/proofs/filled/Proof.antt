@@ -35,8 +35,12 @@ loop-again c =
     let l = c .before .before in
     let refs = l .before .args .t1 in
     ⊎-elim
-    (λ w. let t : filled-at refs (l .loop .i) ≡ true = is-not (ne-eqb _ _ (w .0 .taken)) in (omega arith, omega arith, w .1 ∙ count-yes (filled-at refs) (l .loop .i) (l .loop .c) t (l .loop .inv .2)))
-    (λ w. let t : filled-at refs (l .loop .i) ≡ false = is-not-true (eq-eqb _ _ (w .0 .left)) in (omega arith, omega arith, w .1 ∙ count-no (filled-at refs) (l .loop .i) (l .loop .c) t (l .loop .inv .2)))
+    (λ w.
+    let t : filled-at refs (l .loop .i) ≡ true = is-not (ne-eqb _ _ (w .0 .taken)) in
+    (omega arith, omega arith, w .1 ∙ count-yes (filled-at refs) (l .loop .i) (l .loop .c) t (l .loop .inv .2)))
+    (λ w.
+    let t : filled-at refs (l .loop .i) ≡ false = is-not-true (eq-eqb _ _ (w .0 .left)) in
+    (omega arith, omega arith, w .1 ∙ count-no (filled-at refs) (l .loop .i) (l .loop .c) t (l .loop .inv .2)))
     (c .if1 .came)
 
 returns : tie.Need-returns Inv-loop μ-loop

@@ -20,7 +20,18 @@ returns c =
     let fields = rw (g .pre .is) at (five .before .fields-wrong .ensures) in
     let entries = rw (g .pre .is) at (seven .before .entries-wrong .ensures) in
     c .first-of3 .ensures
-    ∙ rw (four .row .ensures, sum, c .before .first-of2 .ensures, five .row2 .ensures, fields, c .before .before .first-of .ensures, six .row3 .ensures, six .before .not-above .ensures, seven .row4 .ensures, entries) refl
+    ∙ rw (
+      four .row .ensures,
+      sum,
+      c .before .first-of2 .ensures,
+      five .row2 .ensures,
+      fields,
+      c .before .before .first-of .ensures,
+      six .row3 .ensures,
+      six .before .not-above .ensures,
+      seven .row4 .ensures,
+      entries,
+    ) refl
 
 pub four-to-seven-spec : {M : Type 1} → statement M
 four-to-seven-spec =

@@ -52,13 +52,16 @@ loop-again c =
     let l = y .before .before in
     let s = l .before .before .before .before .before .before .before in
     let t = s .args .table .now in
-    let x = named (s .args .v .round - 1) (l .before .before .before .before .entries .i) (entry (s .args .v) (l .before .before .before .before .entries .i)) in
+    let i = l .before .before .before .before .entries .i in
+    let x = named (s .args .v .round - 1) i (entry (s .args .v) i) in
     let m = l .loop .lo + (l .loop .hi - l .loop .lo) / 2 in
     let read : y .name-at .result ≡ nameAt t m = y .name-at .ensures ∙ name-at t m (omega (arith, l .loop .inv .within, s .pre .within)) in
     let other : sameName (nameAt t m) x ≡ false = rw (← read, ← b .before .before .same .ensures) (b .before .if4 .left) in
     let up = raised-is (b .below .result) (l .loop .lo) m _ (c .before .raised .ensures) (omega arith) in
     let held : b .below .result ≡ below (nameAt t m) x = rw (← read) (b .below .ensures) in
-    searched-turn t (s .args .p) x (rise (s .args .n) t (s .args .p) (s .args .v) (s .pre)) (l .loop .lo) (l .loop .hi) m refl (omega arith) (l .loop .inv) other (b .below .result) _ _ held up (c .lowered .ensures)
+    let rises = rise (s .args .n) t (s .args .p) (s .args .v) (s .pre) in
+    searched-turn t (s .args .p) x rises (l .loop .lo) (l .loop .hi) m refl (omega arith) (l .loop .inv) other
+    (b .below .result) _ _ held up (c .lowered .ensures)
 
 entries-again : tie.Need-entries-again Inv-loop μ-loop Inv-entries μ-entries
 entries-again c =
@@ -95,7 +98,9 @@ returns-2 c =
     let s = e .before .before .before in
     let i = e .entries .i in
     let v = s .args .v in
-    sym (some-missing (s .args .n) (s .args .table .now) (s .args .p) v (s .pre) i (named (v .round - 1) i (entry v i)) (entry-named v i) (l .before .before .if2 .taken) (omega arith) (l .loop .lo) (l .loop .hi) (omega arith) (l .loop .inv))
+    let x = named (v .round - 1) i (entry v i) in
+    sym (some-missing (s .args .n) (s .args .table .now) (s .args .p) v (s .pre) i x (entry-named v i) (l .before .before .if2 .taken) (omega arith)
+    (l .loop .lo) (l .loop .hi) (omega arith) (l .loop .inv))
 
 pub not-earlier-spec : {M : Type 1} → statement M
 not-earlier-spec =

@@ -39,7 +39,9 @@ loop-again c =
     let same : getD (l .before .args .t1) (l .loop .i) 0 ≡ l .before .args .mark = omega (arith, w .0 .taken) in
     let t : p (l .loop .i) ≡ true = eq-eqb _ _ same in
     (omega arith, omega arith, w .1 ∙ count-yes p (l .loop .i) (l .loop .c) t (l .loop .inv .2)))
-    (λ w. let t : p (l .loop .i) ≡ false = ne-eqb _ _ (w .0 .left) in (omega arith, omega arith, w .1 ∙ count-no p (l .loop .i) (l .loop .c) t (l .loop .inv .2)))
+    (λ w.
+    let t : p (l .loop .i) ≡ false = ne-eqb _ _ (w .0 .left) in
+    (omega arith, omega arith, w .1 ∙ count-no p (l .loop .i) (l .loop .c) t (l .loop .inv .2)))
     (c .if1 .came)
 
 returns : tie.Need-returns Inv-loop μ-loop

@@ -27,13 +27,19 @@ returns c =
     let f = c .before in
     let l = f .before .before .before in
     let a = l .before .args in
-    sym (enough-found (a .t1) (a .q) (l .loop .i) (omega arith) (l .loop .inv .1) (enough-many (a .t1) (a .q) (l .loop .i) (f .before .if1 .taken) (omega (arith, f .count-mark .ensures))))
+    let many = enough-many (a .t1) (a .q) (l .loop .i) (f .before .if1 .taken) (omega (arith, f .count-mark .ensures)) in
+    sym (enough-found (a .t1) (a .q) (l .loop .i) (omega arith) (l .loop .inv .1) many)
 
 loop-again : tie.Need-loop-again Inv-loop μ-loop
 loop-again c =
     let l = c .before .before in
     let a = l .before .args in
-    (omega arith, below-more _ _ (l .loop .inv .1) (⊎-elim (λ w. enough-few (a .t1) (a .q) (l .loop .i) (omega (arith, w .1 .ensures, w .2 .left))) (λ w. enough-empty (a .t1) (a .q) (l .loop .i) (w .left)) (c .if1 .came)))
+    let none : enoughAt (a .t1) (a .q) (l .loop .i) ≡ false =
+    ⊎-elim
+    (λ w. enough-few (a .t1) (a .q) (l .loop .i) (omega (arith, w .1 .ensures, w .2 .left)))
+    (λ w. enough-empty (a .t1) (a .q) (l .loop .i) (w .left))
+    (c .if1 .came) in
+    (omega arith, below-more _ _ (l .loop .inv .1) none)
 
 returns-2 : tie.Need-returns-2 Inv-loop μ-loop
 returns-2 c =

@@ -76,14 +76,19 @@ returns c =
     let s = b .before .before .before .before in
     let a = s .args in
     let t = a .table .now in
-    let ok = directCommit (a .n) (vertices first t) in
+    let vs = vertices first t in
+    let ok = directCommit (a .n) vs in
     let p = c .before .commit-in .result in
     let is = c .before .commit-in .ensures in
-    let fails : FailTo (vertices first t) ok (startOf (vertices first t) (a .round) (a .leader)) p = rw (b .begin2 .ensures) at (fail-on (vertices first t) ok (b .begin2 .result) (l .loop .b) p (l .loop .inv .3) (from-fail (vertices first t) ok (l .loop .b) (m .smaller .result) p is)) in
-    let up : l .loop .b ≤ p = omega (arith, is) in (
-      first-in-found (s .pre .0 .sound .accepted) (a .round) (a .leader) ok p (omega (arith, b .begin2 .ensures)) (omega (arith, m .smaller .ensures, b .before .begin .ensures)) fails (from-pass (vertices first t) ok (l .loop .b) (m .smaller .result) p is (c .if1 .taken)),
-      retagged-on (a .work .now) (l .loop .work) _ (l .loop .inv .2) (g .tag-certified .ensures .retagged),
-    )
+    let none = from-fail vs ok (l .loop .b) (m .smaller .result) p is in
+    let fails : FailTo vs ok (startOf vs (a .round) (a .leader)) p =
+    rw (b .begin2 .ensures) at (fail-on vs ok (b .begin2 .result) (l .loop .b) p (l .loop .inv .3) none) in
+    let hit = from-pass vs ok (l .loop .b) (m .smaller .result) p is (c .if1 .taken) in
+    let up : l .loop .b ≤ p = omega (arith, is) in
+    let found =
+    first-in-found (s .pre .0 .sound .accepted) (a .round) (a .leader) ok p (omega (arith, b .begin2 .ensures))
+    (omega (arith, m .smaller .ensures, b .before .begin .ensures)) fails hit in
+    (found, retagged-on (a .work .now) (l .loop .work) _ (l .loop .inv .2) (g .tag-certified .ensures .retagged))
 
 loop-less : tie.Need-loop-less Inv-loop μ-loop
 loop-less c =
@@ -105,7 +110,8 @@ loop-again c =
       omega (arith, m .smaller .ensures),
       omega (arith, m .smaller .ensures),
       retagged-on (a .work .now) (l .loop .work) _ (l .loop .inv .2) (g .tag-certified .ensures .retagged),
-      fail-on (vertices first t) ok (b .begin2 .result) (l .loop .b) (m .smaller .result) (l .loop .inv .3) (λ j f h. from-fail (vertices first t) ok (l .loop .b) (m .smaller .result) p is j f (omega arith)),
+      fail-on (vertices first t) ok (b .begin2 .result) (l .loop .b) (m .smaller .result) (l .loop .inv .3)
+          (λ j f h. from-fail (vertices first t) ok (l .loop .b) (m .smaller .result) p is j f (omega arith)),
     )
 
 same-length-2 : tie.Need-same-length-2 Inv-loop μ-loop
@@ -118,9 +124,12 @@ returns-2 c =
     let s = b .before .before .before .before in
     let a = s .args in
     let t = a .table .now in
-    let e : l .loop .b ≡ startOf (vertices first t) (a .round) (a .leader + 1) = omega (arith, b .before .begin .ensures) in
-    let f : FailTo (vertices first t) (directCommit (a .n) (vertices first t)) (startOf (vertices first t) (a .round) (a .leader)) (startOf (vertices first t) (a .round) (a .leader + 1)) = rw (b .begin2 .ensures, e) at (l .loop .inv .3) in
-    (c .records-of .ensures ∙ sym (vertices-length first t) ∙ first-in-none (s .pre .0 .sound .accepted) (a .round) (a .leader) (directCommit (a .n) (vertices first t)) f, l .loop .inv .2)
+    let vs = vertices first t in
+    let ok = directCommit (a .n) vs in
+    let e : l .loop .b ≡ startOf vs (a .round) (a .leader + 1) = omega (arith, b .before .begin .ensures) in
+    let f : FailTo vs ok (startOf vs (a .round) (a .leader)) (startOf vs (a .round) (a .leader + 1)) = rw (b .begin2 .ensures, e) at (l .loop .inv .3) in
+    let none = first-in-none (s .pre .0 .sound .accepted) (a .round) (a .leader) ok f in
+    (c .records-of .ensures ∙ sym (vertices-length first t) ∙ none, l .loop .inv .2)
 
 pub direct-commit-spec : {M : Type 1} → statement M
 direct-commit-spec =

@@ -9,10 +9,10 @@ returns : tie.Need-returns
 returns c =
     let b = c .before .before .before .before .before in
     let s = b .before .before .before .before in
-    let a = s .args in (
-      rw (c .before .before .quorum-of .ensures, c .authors-tagged .ensures) (skip-tagged (s .pre .0 .sound .accepted) (a .round) (a .leader) (a .work .now) (b .tag-blank .last .1 .1 .1 .1 .0) (b .tag-blank .ensures)),
-      b .tag-blank .ensures .retagged,
-    )
+    let a = s .args in
+    let same =
+    skip-tagged (s .pre .0 .sound .accepted) (a .round) (a .leader) (a .work .now) (b .tag-blank .last .1 .1 .1 .1 .0) (b .tag-blank .ensures) in
+    (rw (c .before .before .quorum-of .ensures, c .authors-tagged .ensures) same, b .tag-blank .ensures .retagged)
 
 pub direct-skip-spec : {M : Type 1} → statement M
 direct-skip-spec =

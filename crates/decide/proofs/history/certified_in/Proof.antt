@@ -39,7 +39,9 @@ loop-holds c =
     let e = c .before in
     let at-start : e .begin2 .result ≡ startOf (vertices first t) (r + 2) 0 = e .begin2 .ensures in
     let at-end : e .before .begin .result ≡ startOf (vertices first t) (r + 3) 0 = e .before .begin .ensures in
-    (omega arith, omega (arith, start-mono A (r + 2) 0 (r + 3) 0 (inl (omega arith))), sym (rw at-start (told-start A r (s .args .leader) (s .args .a) la ∙ vertices-length first t) ∙ sym (c .records-of .ensures)))
+    let more = start-mono A (r + 2) 0 (r + 3) 0 (inl (omega arith)) in
+    let none = told-start A r (s .args .leader) (s .args .a) la ∙ vertices-length first t in
+    (omega arith, omega (arith, more), sym (rw at-start none ∙ sym (c .records-of .ensures)))
 
 shared-slice-read-if1 : tie.Need-shared-slice-read-if1 Inv-loop μ-loop
 shared-slice-read-if1 c =
@@ -72,7 +74,8 @@ loop-again c =
     ⊎-elim
     (λ w.
     let member = bit-yes _ (λ z. omega (arith, byte ∙ z, w .0 .taken)) in
-    (omega arith, omega arith, w .3 ∙ w .2 .ensures ∙ ap₂ min (l .loop .inv .2) (w .1 .ensures) ∙ sym (told-yes A r (s .args .leader) (s .args .a) (S .within) (l .loop .w) member)))
+    let told = told-yes A r (s .args .leader) (s .args .a) (S .within) (l .loop .w) member in
+    (omega arith, omega arith, w .3 ∙ w .2 .ensures ∙ ap₂ min (l .loop .inv .2) (w .1 .ensures) ∙ sym told))
     (λ w.
     let other = bit-no _ (sym byte ∙ omega (arith, w .0 .left)) in
     (omega arith, omega arith, w .1 ∙ l .loop .inv .2 ∙ sym (told-no A r (s .args .leader) (s .args .a) (S .within) (l .loop .w) other)))

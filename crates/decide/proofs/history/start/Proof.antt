@@ -27,7 +27,9 @@ returns c =
     let within : s .args .a < length m = omega (arith, f .forget .ensures .0, s .pre .1, s .pre .0 .room) in
     let none : (q : ℕ) → q < length (vertices first t) → historyAt m q ≡ 0 =
     λ q l. f .forget .ensures .1 q (omega (arith, vertices-length first t, f .before .records-of .ensures)) in
-    (simp length-set (f .forget .ensures .0), swept-start (s .pre .0 .sound .accepted) (by-references (s .pre .0 .sound .accepted)) (s .args .a) _ (s .pre .1) (start-alone m (length (vertices first t)) (s .args .a) (c .with-history .result) within (c .with-history .ensures) none))
+    let A = s .pre .0 .sound .accepted in
+    let alone = start-alone m (length (vertices first t)) (s .args .a) (c .with-history .result) within (c .with-history .ensures) none in
+    (simp length-set (f .forget .ensures .0), swept-start A (by-references A) (s .args .a) _ (s .pre .1) alone)
 
 pub start-spec : {M : Type 1} → statement M
 start-spec =

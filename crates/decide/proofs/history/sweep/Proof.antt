@@ -47,7 +47,11 @@ loop-again c =
     let t = s .args .table .now in
     let e : l .loop .p ≡ suc (l .loop .p - 1) = omega arith in
     let m = r .mark-refs .last .1 .1 .1 .0 in
-    (omega arith, r .mark-refs .ensures .0 ∙ l .loop .inv .1, swept-next (s .pre .0 .sound .accepted) (by-references (s .pre .0 .sound .accepted)) (s .args .a) (l .loop .p - 1) (l .loop .work) (subst (λ x. Swept references (vertices first t) (s .args .a) x (l .loop .work)) e (l .loop .inv .2)) m (r .before .before .if1 .taken) (r .mark-refs .ensures .1))
+    let A = s .pre .0 .sound .accepted in
+    let so-far = subst (λ x. Swept references (vertices first t) (s .args .a) x (l .loop .work)) e (l .loop .inv .2) in
+    let next =
+    swept-next A (by-references A) (s .args .a) (l .loop .p - 1) (l .loop .work) so-far m (r .before .before .if1 .taken) (r .mark-refs .ensures .1) in
+    (omega arith, r .mark-refs .ensures .0 ∙ l .loop .inv .1, next)
 
 loop-again-2 : tie.Need-loop-again-2 Inv-loop μ-loop
 loop-again-2 c =
@@ -55,7 +59,9 @@ loop-again-2 c =
     let s = l .before .before .before in
     let t = s .args .table .now in
     let e : l .loop .p ≡ suc (l .loop .p - 1) = omega arith in
-    (omega arith, l .loop .inv .1, swept-same (s .pre .0 .sound .accepted) (by-references (s .pre .0 .sound .accepted)) (s .args .a) (l .loop .p - 1) (l .loop .work) (subst (λ x. Swept references (vertices first t) (s .args .a) x (l .loop .work)) e (l .loop .inv .2)) (omega arith))
+    let A = s .pre .0 .sound .accepted in
+    let so-far = subst (λ x. Swept references (vertices first t) (s .args .a) x (l .loop .work)) e (l .loop .inv .2) in
+    (omega arith, l .loop .inv .1, swept-same A (by-references A) (s .args .a) (l .loop .p - 1) (l .loop .work) so-far (omega arith))
 
 returns : tie.Need-returns Inv-loop μ-loop
 returns c =

@@ -23,7 +23,9 @@ abbrev μ-loop : tie.MeasureT-loop
 μ-loop n table round tag work c₀ a₀ c a = n - a
 
 loop-holds : tie.Need-loop-holds Inv-loop μ-loop
-loop-holds c = let a = c .before .before .args in (omega arith, omega arith, sym (count-start (authorTagged (vertices first (a .table .now)) (a .round) (a .tag) (a .work .now))))
+loop-holds c =
+    let a = c .before .before .args in
+    (omega arith, omega arith, sym (count-start (authorTagged (vertices first (a .table .now)) (a .round) (a .tag) (a .work .now))))
 
 count-tagged-requires : tie.Need-count-tagged-requires Inv-loop μ-loop
 count-tagged-requires c κs =
@@ -33,7 +35,8 @@ count-tagged-requires c κs =
     let t = a .table .now in
     let m : startOf (vertices first t) (a .round) (l .loop .a) ≤ startOf (vertices first t) (a .round) (l .loop .a + 1) =
     start-mono (s .pre .sound .accepted) (a .round) (l .loop .a) (a .round) (l .loop .a + 1) (inr (refl, omega arith)) in
-    (omega (arith, m, c .before .begin .ensures, c .begin2 .ensures), omega (arith, s .pre .room, c .begin2 .ensures, start-bound (s .pre .sound .accepted) (a .round) (l .loop .a + 1)))
+    let bound = start-bound (s .pre .sound .accepted) (a .round) (l .loop .a + 1) in
+    (omega (arith, m, c .before .begin .ensures, c .begin2 .ensures), omega (arith, s .pre .room, c .begin2 .ensures, bound))
 
 loop-again : tie.Need-loop-again Inv-loop μ-loop
 loop-again c =
@@ -43,7 +46,9 @@ loop-again c =
     let a = s .args in
     let t = a .table .now in
     let p = authorTagged (vertices first t) (a .round) (a .tag) (a .work .now) in
-    let one : c .once .result ≡ bit (p (l .loop .a)) = c .once .ensures ∙ ap (λ k. min k 1) (f .count-tagged .ensures) ∙ rw (f .before .before .begin .ensures, f .before .begin2 .ensures) (author-once (s .pre .sound .accepted) (a .round) (a .tag) (l .loop .a) (a .work .now)) in
+    let single = author-once (s .pre .sound .accepted) (a .round) (a .tag) (l .loop .a) (a .work .now) in
+    let one : c .once .result ≡ bit (p (l .loop .a)) =
+    c .once .ensures ∙ ap (λ k. min k 1) (f .count-tagged .ensures) ∙ rw (f .before .before .begin .ensures, f .before .begin2 .ensures) single in
     (omega arith, omega (arith, c .once .ensures), author-next p (l .loop .a) (l .loop .c) (c .once .result) one (l .loop .inv .2))
 
 returns : tie.Need-returns Inv-loop μ-loop

@@ -71,7 +71,10 @@ loop-again c =
     omega (arith, l .loop .inv .1 .retagged .same-length, s .pre .0 .room, b .begin .ensures, start-bound (s .pre .0 .sound .accepted) (a .round + 2) 0) in
     let tag : c .with-tag .result % 128 ≡ tag-of (a .table .now) (a .leader) (l .loop .q) =
     c .with-tag .ensures .1 ∙ f .blank-tag .ensures ∙ ap (λ m. bit (eqb m 0)) (f .before .entry-at .ensures) in
-    (omega arith, tagged-next _ (tag-of (a .table .now) (a .leader)) (a .work .now) (l .loop .q) (l .loop .work) (c .with-tag .result) low (c .with-tag .ensures .0) tag (l .loop .inv .1))
+    let next =
+    tagged-next _ (tag-of (a .table .now) (a .leader)) (a .work .now) (l .loop .q) (l .loop .work) (c .with-tag .result) low
+    (c .with-tag .ensures .0) tag (l .loop .inv .1) in
+    (omega arith, next)
 
 same-length : tie.Need-same-length Inv-loop μ-loop
 same-length c = c .before .loop .inv .1 .retagged .same-length

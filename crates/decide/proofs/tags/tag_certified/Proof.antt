@@ -34,7 +34,8 @@ loop-holds c =
     let t = a .table .now in
     let m : startOf (vertices first t) (a .round + 2) 0 ≤ startOf (vertices first t) (a .round + 3) 0 =
     start-mono (s .pre .0 .sound .accepted) (a .round + 2) 0 (a .round + 3) 0 (inl (omega arith)) in
-    (omega arith, omega (arith, m, c .before .begin .ensures, c .begin2 .ensures), tagged-start (c .begin2 .result) (tag-of (a .n) t (a .round) (a .leader) (a .b) (a .e)) (a .work .now))
+    let tag-at = tag-of (a .n) t (a .round) (a .leader) (a .b) (a .e) in
+    (omega arith, omega (arith, m, c .before .begin .ensures, c .begin2 .ensures), tagged-start (c .begin2 .result) tag-at (a .work .now))
 
 certified-at-requires : tie.Need-certified-at-requires Inv-loop μ-loop
 certified-at-requires c κs =
@@ -84,7 +85,10 @@ loop-again c =
     omega (arith, l .loop .inv .2 .retagged .same-length, s .pre .0 .room, b .begin .ensures, start-bound (s .pre .0 .sound .accepted) (a .round + 3) 0) in
     let tag : c .with-tag .result % 128 ≡ tag-at (l .loop .w) =
     c .with-tag .ensures .1 ∙ f .window-tag .ensures ∙ ap (λ x. windowTag x (a .b) (a .e)) (p .certified-at .ensures) in
-    (omega arith, omega arith, tagged-next (l .before .begin2 .result) tag-at (a .work .now) (l .loop .w) (l .loop .work) (c .with-tag .result) low (c .with-tag .ensures .0) tag (l .loop .inv .2))
+    let next =
+    tagged-next (l .before .begin2 .result) tag-at (a .work .now) (l .loop .w) (l .loop .work) (c .with-tag .result) low
+    (c .with-tag .ensures .0) tag (l .loop .inv .2) in
+    (omega arith, omega arith, next)
 
 same-length : tie.Need-same-length Inv-loop μ-loop
 same-length c = c .before .loop .inv .2 .retagged .same-length

@@ -50,7 +50,10 @@ loop-again-2 c =
     let s = l .before .before .before .before .before .before .before in
     let A = s .pre .0 .sound .accepted in
     let I = l .loop .inv in
-    (I .0, down-other A (by-references A) (s .args .a) (s .pre .1 .0) _ (I .2) (I .0) (l .loop .p) (l .loop .low) (l .loop .taken) (omega arith) (I .1) (c .if1 .left), I .2)
+    let next =
+    down-other A (by-references A) (s .args .a) (s .pre .1 .0) _ (I .2) (I .0) (l .loop .p) (l .loop .low) (l .loop .taken) (omega arith) (I .1)
+    (c .if1 .left) in
+    (I .0, next, I .2)
 
 returns : tie.Need-returns Inv-loop μ-loop
 returns c =

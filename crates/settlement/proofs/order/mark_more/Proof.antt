@@ -49,7 +49,10 @@ loop-again c =
     ⊎-elim
     (λ x.
     let found = reference-at t A p (s .pre .1) i few (omega (arith, q, x .0 .taken)) in
-    (omega arith, rw (x .5, x .6) (more-next A p (s .pre .1) (s .args .taken .now) (s .args .low) i (l .loop .lowest) (l .loop .taken) M _ (x .2 .result) (x .2 .last .1 .1 .0) (found .given) (q ∙ found .place) (omega (arith, s .pre .1)) (x .2 .ensures))))
+    let next =
+    more-next A p (s .pre .1) (s .args .taken .now) (s .args .low) i (l .loop .lowest) (l .loop .taken) M _ (x .2 .result) (x .2 .last .1 .1 .0)
+    (found .given) (q ∙ found .place) (omega (arith, s .pre .1)) (x .2 .ensures) in
+    (omega arith, rw (x .5, x .6) next))
     (λ x.
     let empty = no-reference t A p (s .pre .1) i few (omega (arith, q, x .0 .left)) in
     (omega arith, rw (x .1, x .2) (more-same A p (s .pre .1) (s .args .taken .now) (s .args .low) i (l .loop .lowest) (l .loop .taken) M empty)))

@@ -58,8 +58,14 @@ loop-again c =
     let room =
     put-room (a .taken .now) (a .order .now) (a .count) (l .loop .p) (l .loop .c) (l .loop .taken) (l .loop .order) P (a .a) (omega arith) (omega arith)
     (l .before .pre .places) (x .0 .taken) in
-    (omega arith, rw (x .1, x .2, x .3) (put-yes (a .taken .now) (a .order .now) (a .count) (l .loop .p) (l .loop .c) (l .loop .taken) (l .loop .order) P (omega arith) (omega arith) room (x .0 .taken))))
-    (λ x. (omega arith, rw (x .1, x .2, x .3) (put-no (a .taken .now) (a .order .now) (a .count) (l .loop .p) (l .loop .c) (l .loop .taken) (l .loop .order) P (omega arith) (x .0 .left))))
+    let next =
+    put-yes (a .taken .now) (a .order .now) (a .count) (l .loop .p) (l .loop .c) (l .loop .taken) (l .loop .order) P (omega arith) (omega arith)
+    room (x .0 .taken) in
+    (omega arith, rw (x .1, x .2, x .3) next))
+    (λ x.
+    let next =
+    put-no (a .taken .now) (a .order .now) (a .count) (l .loop .p) (l .loop .c) (l .loop .taken) (l .loop .order) P (omega arith) (x .0 .left) in
+    (omega arith, rw (x .1, x .2, x .3) next))
     (c .if1 .came)
 
 returns : tie.Need-returns Inv-loop μ-loop

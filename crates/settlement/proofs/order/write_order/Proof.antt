@@ -31,7 +31,10 @@ loop-holds c =
     let D = g .pre .0 in
     let vs = vertices first (g .args .table .now) in
     let m = g .args .taken .now in
-    (omega arith, upto-start (boxSetting (g .args .n)) (g .args .n) vs (g .args .order .now) m (D .fits .ready .room) (λ q lq. ap (λ b. getD b q 0) (D .cleared) ∙ over-at (λ i. 0) (length vs) m q lq))
+    let start =
+    upto-start (boxSetting (g .args .n)) (g .args .n) vs (g .args .order .now) m (D .fits .ready .room)
+    (λ q lq. ap (λ b. getD b q 0) (D .cleared) ∙ over-at (λ i. 0) (length vs) m q lq) in
+    (omega arith, start)
 
 shared-slice-read-c : tie.Need-shared-slice-read-c Inv-loop μ-loop
 shared-slice-read-c c = let g = c .before .before .before .before .before .before .before in omega (arith, g .pre .0 .in-cells .slots, g .pre .1)
@@ -83,7 +86,9 @@ loop-again c =
     upto-commit A (by-references A) (R .room) (D .fits .places) U (getD (g .args .cells .now) j 0 - 2) (led .1) (slot-low _ _ low) (led .0) (x .3 .result)
     (x .3 .last .1 .1 .1 .0) (x .3 .last .1 .1 .1 .1 .0) (x .3 .ensures) in
     (omega arith, rw (x .8, x .9, x .10) next))
-    (λ x. (omega arith, rw (x .1, x .2, x .3) (upto-skip A (by-references A) (R .room) (D .fits .places) U (slot-low _ _ low) (cell-skipped _ (sym holds ∙ x .0 .left)))))
+    (λ x.
+    let next = upto-skip A (by-references A) (R .room) (D .fits .places) U (slot-low _ _ low) (cell-skipped _ (sym holds ∙ x .0 .left)) in
+    (omega arith, rw (x .1, x .2, x .3) next))
     (c .if2 .came)
 
 returns-2 : tie.Need-returns-2 Inv-loop μ-loop

@@ -15,6 +15,7 @@ use Rattle.rules.specs.Record.{first, records, vertices}
 use Rattle.rules.specs.Decision.{cell}
 use Rattle.rules.specs.Decide.{boxSetting, highest, decisions}
 use Rattle.rules.specs.Settlement.{Buffers, writtenOver, lentCheck}
+use Rattle.rules.proofs.Refusals.{goes-on}
 use Rattle.rules.proofs.Records.{vertices-length}
 use Rattle.lent.proofs.Lent.{Suffices, suffices}
 use Rattle.decide.specs.Ready.{Ready}
@@ -27,6 +28,9 @@ module _ (n : ℕ) (t : List ℕ) (b : Buffers) where
       → DecidesTo n t b (Refused r) (b .cells) (b .taken)
   unfolding cellsAfter takenAfter
   refused-to e f = record { answer = sym (ap checkTells f) ∙ e; in-cells = refl; in-taken = refl }
+
+  pub passes-to : {x : Checked} → checkTells x ≡ lentCheck (boxSetting n) first n t b → x ≡ Passed → lentCheck (boxSetting n) first n t b ≡ passed
+  passes-to e f = goes-on e f
 
   -- all suffices: the rounds are decided on the first k taken bytes, a byte for each record
   module _ (passes : lentCheck (boxSetting n) first n t b ≡ passed) (k : ℕ) (size : k ≡ records first t) where

@@ -51,10 +51,6 @@ tabulate-fill f i r v h e q = rw (add-one i, take-suc-set r i v h, q, e)
 
 -- ---- filterTo
 
-pub filter-start : (p : ℕ → Bool) → filterTo p 0 ≡ []
-unfolding filterTo
-filter-start p = refl
-
 pub filter-yes : (p : ℕ → Bool) (i : ℕ) → p i ≡ true → filterTo p (i + 1) ≡ filterTo p i ++ i ∷ []
 unfolding filterTo
 filter-yes p i e = rw (add-one i, e)

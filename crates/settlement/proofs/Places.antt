@@ -21,10 +21,6 @@ module _ (count : ℕ) (new old : List ℕ) (w : count ≤ length old) where
       ∙ put-next (take count old ++ new) old (count + length new) v 0 at-end l
       ∙ rw (e, append-assoc, append-assoc, ← append-assoc new (v ∷ []))
 
-  pub places-length : count + length new ≤ length old → length (placesOver count new old) ≡ length old
-  unfolding placesOver
-  places-length l = simp (length-append, length-take, length-drop) (omega arith)
-
 pub places-none : (count : ℕ) (old : List ℕ) → old ≡ placesOver count [] old
 unfolding placesOver
 places-none count old = let e : count + 0 ≡ count = omega arith in rw e (sym (take-append-drop count old))

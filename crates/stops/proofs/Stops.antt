@@ -20,9 +20,6 @@ abbrev pub SkippedTo : List ℕ → (from t : ℕ) → Type 0
 SkippedTo cells from t = (u : ℕ) → from ≤ u → u < t → getD cells u 0 ≡ 1
 
 module _ (cells : List ℕ) (from : ℕ) where
-  pub stop-start : SkippedTo cells from from
-  stop-start u h l = absurd (omega arith)
-
   module _ (t : ℕ) (skips : SkippedTo cells from t) where
     pub stop-more : getD cells t 0 ≡ 1 → SkippedTo cells from (t + 1)
     stop-more e u l k = by-test (ltb u t) (λ b. skips u l (ltb-true u t b)) (λ b. let q : u ≡ t = omega (arith, ltb-false u t b) in rw q e)

@@ -45,12 +45,5 @@ returns c =
 pub digits-of-spec : {M : Type 1} → statement M
 digits-of-spec =
     tie.close
-    (tie.spec
-    Inv-loop
-    μ-loop
-    (λ c κs. search needs) (λ c. search needs)
-    loop-holds
-    sub-start
-    (λ c κs. search needs) (λ c. search needs) (λ c. search needs)
-    loop-again
-    returns)
+    (tie.spec Inv-loop μ-loop (λ c κs. search needs) (λ c. search needs) loop-holds sub-start (λ c κs. search needs) (λ c. search needs)
+    (λ c. search needs) loop-again returns)

@@ -11,6 +11,4 @@ returns c = numbered (c .before .before .before .before .digits-of .ensures) (c 
 pub with-number-spec : {M : Type 1} → statement M
 with-number-spec =
     tie.close
-    (tie.spec
-    (λ c κs. search needs) (λ c. search needs) (λ c. search needs) (λ c. search needs) (λ c κs. search needs)
-    returns)
+    (tie.spec (λ c κs. search needs) (λ c. search needs) (λ c. search needs) (λ c. search needs) (λ c κs. search needs) returns)

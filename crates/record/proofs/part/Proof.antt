@@ -25,11 +25,6 @@ returns-3 c =
 pub part-spec : {M : Type 1} → statement M
 part-spec =
     tie.close
-    (tie.spec
-    (λ c. search needs) (λ c. search needs) (λ c. search needs) (λ c. search needs) (λ c. search needs)
-    (λ c. search needs)
-    returns
-    (λ c. search needs) (λ c. search needs) (λ c. search needs) (λ c. search needs)
-    returns-2
-    (λ c. search needs) (λ c. search needs) (λ c. search needs)
-    returns-3)
+    (tie.spec (λ c. search needs) (λ c. search needs) (λ c. search needs) (λ c. search needs) (λ c. search needs) (λ c. search needs) returns
+    (λ c. search needs) (λ c. search needs) (λ c. search needs) (λ c. search needs) returns-2 (λ c. search needs) (λ c. search needs)
+    (λ c. search needs) returns-3)

@@ -18,8 +18,5 @@ returns-2 c =
 pub rest-spec : {M : Type 1} → statement M
 rest-spec =
     tie.close
-    (tie.spec
-    (λ c. search needs) (λ c. search needs) (λ c. search needs)
-    returns
-    (λ c. search needs) (λ c. search needs) (λ c. search needs)
+    (tie.spec (λ c. search needs) (λ c. search needs) (λ c. search needs) returns (λ c. search needs) (λ c. search needs) (λ c. search needs)
     returns-2)

@@ -32,10 +32,5 @@ returns-3 c =
 pub round-line-spec : {M : Type 1} → statement M
 round-line-spec =
     tie.close
-    (tie.spec
-    (λ c κs. search needs) (λ c. search needs)
-    returns
-    (λ c κs. search needs) (λ c. search needs)
-    returns-2
-    (λ c. search needs) (λ c κs. search needs) (λ c κs. search needs) (λ c. search needs)
-    returns-3)
+    (tie.spec (λ c κs. search needs) (λ c. search needs) returns (λ c κs. search needs) (λ c. search needs) returns-2 (λ c. search needs)
+    (λ c κs. search needs) (λ c κs. search needs) (λ c. search needs) returns-3)

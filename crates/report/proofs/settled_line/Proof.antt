@@ -47,13 +47,6 @@ returns-4 c =
 pub settled-line-spec : {M : Type 1} → statement M
 settled-line-spec =
     tie.close
-    (tie.spec
-    (λ c κs. search needs) (λ c. search needs)
-    returns
-    (λ c. search needs) (λ c. search needs) (λ c. search needs) (λ c. search needs) (λ c κs. search needs)
-    (λ c κs. search needs) (λ c. search needs)
-    returns-2
-    (λ c. search needs) (λ c. search needs) (λ c κs. search needs) (λ c. search needs) (λ c κs. search needs)
-    (λ c κs. search needs) (λ c. search needs)
-    returns-3
-    returns-4)
+    (tie.spec (λ c κs. search needs) (λ c. search needs) returns (λ c. search needs) (λ c. search needs) (λ c. search needs) (λ c. search needs)
+    (λ c κs. search needs) (λ c κs. search needs) (λ c. search needs) returns-2 (λ c. search needs) (λ c. search needs) (λ c κs. search needs)
+    (λ c. search needs) (λ c κs. search needs) (λ c κs. search needs) (λ c. search needs) returns-3 returns-4)

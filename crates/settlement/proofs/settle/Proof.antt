@@ -93,15 +93,6 @@ returns-2 c =
 pub settle-spec : {M : Type 1} → statement M
 settle-spec =
     tie.close
-    (tie.spec
-    (λ c κs. search needs) (λ c. search needs) (λ c. search needs) (λ c κs. search needs) (λ c. search needs)
-    (λ c. search needs) (λ c. search needs)
-    returns
-    (λ c κs. search needs) (λ c. search needs)
-    write-order-requires
-    (λ c κs. search needs)
-    first-undecided-requires
-    cast-undecided
-    equivocators-of-requires
-    (λ c. search needs) (λ c. search needs) (λ c. search needs)
-    returns-2)
+    (tie.spec (λ c κs. search needs) (λ c. search needs) (λ c. search needs) (λ c κs. search needs) (λ c. search needs) (λ c. search needs)
+    (λ c. search needs) returns (λ c κs. search needs) (λ c. search needs) write-order-requires (λ c κs. search needs) first-undecided-requires
+    cast-undecided equivocators-of-requires (λ c. search needs) (λ c. search needs) (λ c. search needs) returns-2)

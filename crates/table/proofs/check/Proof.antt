@@ -27,8 +27,4 @@ returns-2 c =
 pub check-spec : {M : Type 1} → statement M
 check-spec =
     tie.close
-    (tie.spec
-    (λ c κs. search needs) (λ c. search needs) (λ c. search needs)
-    returns
-    check-table-requires
-    returns-2)
+    (tie.spec (λ c κs. search needs) (λ c. search needs) (λ c. search needs) returns check-table-requires returns-2)

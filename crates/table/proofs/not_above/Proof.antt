@@ -29,8 +29,4 @@ returns-3 c =
 pub not-above-spec : {M : Type 1} → statement M
 not-above-spec =
     tie.close
-    (tie.spec
-    returns
-    (λ c. search needs) (λ c κs. search needs) (λ c κs. search needs) (λ c κs. search needs)
-    returns-2
-    returns-3)
+    (tie.spec returns (λ c. search needs) (λ c κs. search needs) (λ c κs. search needs) (λ c κs. search needs) returns-2 returns-3)

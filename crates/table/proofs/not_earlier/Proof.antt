@@ -105,19 +105,6 @@ returns-2 c =
 pub not-earlier-spec : {M : Type 1} → statement M
 not-earlier-spec =
     tie.close
-    (tie.spec
-    Inv-loop
-    μ-loop
-    Inv-entries
-    μ-entries
-    entries-holds
-    (λ c. search needs) (λ c. search needs) (λ c. search needs) (λ c. search needs)
-    loop-holds
-    (λ c. search needs) (λ c. search needs) (λ c κs. search needs) (λ c κs. search needs) (λ c κs. search needs)
-    (λ c κs. search needs) (λ c κs. search needs)
-    loop-less
-    loop-again
-    (λ c. search needs) (λ c. search needs)
-    entries-again
-    returns
-    returns-2)
+    (tie.spec Inv-loop μ-loop Inv-entries μ-entries entries-holds (λ c. search needs) (λ c. search needs) (λ c. search needs) (λ c. search needs)
+    loop-holds (λ c. search needs) (λ c. search needs) (λ c κs. search needs) (λ c κs. search needs) (λ c κs. search needs) (λ c κs. search needs)
+    (λ c κs. search needs) loop-less loop-again (λ c. search needs) (λ c. search needs) entries-again returns returns-2)

@@ -51,10 +51,5 @@ returns c = let e : c .before .loop .i ≡ 31 = omega arith in rw e at (c .befor
 pub count-mark-spec : {M : Type 1} → statement M
 count-mark-spec =
     tie.close
-    (tie.spec
-    Inv-loop
-    μ-loop
-    loop-holds
-    (λ c. search needs) (λ c. search needs) (λ c. search needs) (λ c. search needs) (λ c. search needs)
-    loop-again
-    returns)
+    (tie.spec Inv-loop μ-loop loop-holds (λ c. search needs) (λ c. search needs) (λ c. search needs) (λ c. search needs) (λ c. search needs)
+    loop-again returns)

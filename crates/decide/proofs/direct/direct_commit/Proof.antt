@@ -134,19 +134,5 @@ returns-2 c =
 pub direct-commit-spec : {M : Type 1} → statement M
 direct-commit-spec =
     tie.close
-    (tie.spec
-    Inv-loop
-    μ-loop
-    (λ c. search needs) (λ c κs. search needs) (λ c κs. search needs)
-    loop-holds
-    add-smaller
-    (λ c κs. search needs)
-    tag-certified-requires
-    commit-in-requires
-    same-length
-    returns
-    loop-less
-    loop-again
-    (λ c κs. search needs)
-    same-length-2
-    returns-2)
+    (tie.spec Inv-loop μ-loop (λ c. search needs) (λ c κs. search needs) (λ c κs. search needs) loop-holds add-smaller (λ c κs. search needs)
+    tag-certified-requires commit-in-requires same-length returns loop-less loop-again (λ c κs. search needs) same-length-2 returns-2)

@@ -50,21 +50,15 @@ returns-2 c =
     let s = D .before .before .before .before in
     let slot = box-slot (s .args .n) (s .args .round) (s .args .leads) (s .pre .1 .1 .0) (s .pre .1 .1 .1) in
     let size = sym (vertices-length first (s .args .table .now)) in
-    let left = sym (K .skip-unless .ensures .0) ∙ e .if1 .left in (
-      c .cell-of .ensures
-          ∙ rw (k .records-of .ensures) (direct-commits (s .pre .0 .sound .accepted) (boxSetting (s .args .n)) slot (D .direct-commit .result) _ (D .direct-commit .ensures .0) size left),
+    let left = sym (K .skip-unless .ensures .0) ∙ e .if1 .left in
+    let commits =
+    direct-commits (s .pre .0 .sound .accepted) (boxSetting (s .args .n)) slot (D .direct-commit .result) _ (D .direct-commit .ensures .0) size left in (
+      c .cell-of .ensures ∙ rw (k .records-of .ensures) commits,
       retagged-on _ _ _ (D .direct-commit .ensures .1) (K .skip-unless .ensures .1),
     )
 
 pub directly-spec : {M : Type 1} → statement M
 directly-spec =
     tie.close
-    (tie.spec
-    direct-commit-requires
-    skip-unless-requires
-    (λ c. search needs)
-    returns
-    (λ c κs. search needs)
-    cell-of-requires
-    (λ c. search needs)
+    (tie.spec direct-commit-requires skip-unless-requires (λ c. search needs) returns (λ c κs. search needs) cell-of-requires (λ c. search needs)
     returns-2)

@@ -92,13 +92,5 @@ returns c =
 pub certified-in-spec : {M : Type 1} → statement M
 certified-in-spec =
     tie.close
-    (tie.spec
-    Inv-loop
-    μ-loop
-    (λ c. search needs) (λ c κs. search needs) (λ c. search needs) (λ c κs. search needs) (λ c κs. search needs)
-    loop-holds
-    shared-slice-read-if1
-    certified-at-requires
-    (λ c κs. search needs) (λ c. search needs) (λ c. search needs)
-    loop-again
-    returns)
+    (tie.spec Inv-loop μ-loop (λ c. search needs) (λ c κs. search needs) (λ c. search needs) (λ c κs. search needs) (λ c κs. search needs) loop-holds
+    shared-slice-read-if1 certified-at-requires (λ c κs. search needs) (λ c. search needs) (λ c. search needs) loop-again returns)

@@ -34,8 +34,4 @@ returns c =
 pub start-spec : {M : Type 1} → statement M
 start-spec =
     tie.close
-    (tie.spec
-    (λ c κs. search needs)
-    forget-requires
-    (λ c. search needs) (λ c κs. search needs) (λ c. search needs) (λ c. search needs)
-    returns)
+    (tie.spec (λ c κs. search needs) forget-requires (λ c. search needs) (λ c κs. search needs) (λ c. search needs) (λ c. search needs) returns)

@@ -73,16 +73,5 @@ returns c =
 pub sweep-spec : {M : Type 1} → statement M
 sweep-spec =
     tie.close
-    (tie.spec
-    Inv-loop
-    μ-loop
-    loop-holds
-    (λ c. search needs)
-    slice-read-if1
-    mark-refs-requires
-    (λ c. search needs)
-    loop-again
-    (λ c. search needs)
-    loop-again-2
-    (λ c. search needs)
-    returns)
+    (tie.spec Inv-loop μ-loop loop-holds (λ c. search needs) slice-read-if1 mark-refs-requires (λ c. search needs) loop-again (λ c. search needs)
+    loop-again-2 (λ c. search needs) returns)

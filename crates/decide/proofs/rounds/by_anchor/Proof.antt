@@ -63,13 +63,5 @@ returns-3 c =
 pub by-anchor-spec : {M : Type 1} → statement M
 by-anchor-spec =
     tie.close
-    (tie.spec
-    (λ c κs. search needs) (λ c κs. search needs) (λ c. search needs)
-    returns
-    (λ c. search needs) (λ c κs. search needs)
-    returns-2
-    (λ c. search needs)
-    sub-through-anchor
-    through-anchor-requires
-    (λ c. search needs)
-    returns-3)
+    (tie.spec (λ c κs. search needs) (λ c κs. search needs) (λ c. search needs) returns (λ c. search needs) (λ c κs. search needs) returns-2
+    (λ c. search needs) sub-through-anchor through-anchor-requires (λ c. search needs) returns-3)

@@ -104,18 +104,5 @@ returns c =
 pub decide-all-spec : {M : Type 1} → statement M
 decide-all-spec =
     tie.close
-    (tie.spec
-    Inv-loop
-    μ-loop
-    (λ c κs. search needs) (λ c κs. search needs)
-    loop-holds
-    decide-one-requires
-    cast-cells
-    (λ c. search needs)
-    mul-cells
-    slice-write-cells
-    (λ c. search needs) (λ c. search needs)
-    loop-again
-    same-length
-    same-length-2
-    returns)
+    (tie.spec Inv-loop μ-loop (λ c κs. search needs) (λ c κs. search needs) loop-holds decide-one-requires cast-cells (λ c. search needs) mul-cells
+    slice-write-cells (λ c. search needs) (λ c. search needs) loop-again same-length same-length-2 returns)

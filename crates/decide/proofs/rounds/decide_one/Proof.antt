@@ -36,11 +36,4 @@ returns-2 c =
 pub decide-one-spec : {M : Type 1} → statement M
 decide-one-spec =
     tie.close
-    (tie.spec
-    (λ c κs. search needs)
-    directly-requires
-    (λ c. search needs)
-    returns
-    by-anchor-requires
-    (λ c. search needs)
-    returns-2)
+    (tie.spec (λ c κs. search needs) directly-requires (λ c. search needs) returns by-anchor-requires (λ c. search needs) returns-2)

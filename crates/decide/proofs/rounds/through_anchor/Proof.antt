@@ -25,7 +25,8 @@ certified-in-requires c κs =
     let w = c .before .before .before in
     let b = w .before .before in
     let s = b .before .before .before .before .before in
-    (ready-on (s .pre .ready) (w .walk-to .ensures .0), (s .pre .low, (w .walk-to .ensures .1 .1 .1, omega (arith, b .begin .ensures, w .walk-to .ensures .1 .1 .0))))
+    let walked = w .walk-to .ensures in
+    (ready-on (s .pre .ready) (walked .0), (s .pre .low, (walked .1 .1 .1, omega (arith, b .begin .ensures, walked .1 .1 .0))))
 
 cell-of-requires : tie.Need-cell-of-requires
 cell-of-requires c κs =
@@ -49,12 +50,5 @@ returns c =
 pub through-anchor-spec : {M : Type 1} → statement M
 through-anchor-spec =
     tie.close
-    (tie.spec
-    (λ c κs. search needs)
-    leader-of-requires
-    (λ c. search needs) (λ c κs. search needs)
-    walk-to-requires
-    certified-in-requires
-    cell-of-requires
-    (λ c. search needs)
-    returns)
+    (tie.spec (λ c κs. search needs) leader-of-requires (λ c. search needs) (λ c κs. search needs) walk-to-requires certified-in-requires
+    cell-of-requires (λ c. search needs) returns)

@@ -91,17 +91,6 @@ returns c =
 pub tag-blank-spec : {M : Type 1} → statement M
 tag-blank-spec =
     tie.close
-    (tie.spec
-    Inv-loop
-    μ-loop
-    (λ c. search needs) (λ c κs. search needs) (λ c. search needs) (λ c κs. search needs)
-    loop-holds
-    entry-at-requires
-    (λ c κs. search needs)
-    slice-read-with-tag
-    with-tag-requires
-    slice-write-work
-    (λ c. search needs) (λ c. search needs)
-    loop-again
-    same-length
+    (tie.spec Inv-loop μ-loop (λ c. search needs) (λ c κs. search needs) (λ c. search needs) (λ c κs. search needs) loop-holds entry-at-requires
+    (λ c κs. search needs) slice-read-with-tag with-tag-requires slice-write-work (λ c. search needs) (λ c. search needs) loop-again same-length
     returns)

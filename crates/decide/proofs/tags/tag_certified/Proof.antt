@@ -106,17 +106,6 @@ returns c =
 pub tag-certified-spec : {M : Type 1} → statement M
 tag-certified-spec =
     tie.close
-    (tie.spec
-    Inv-loop
-    μ-loop
-    (λ c. search needs) (λ c κs. search needs) (λ c. search needs) (λ c κs. search needs)
-    loop-holds
-    certified-at-requires
-    slice-read-with-tag
-    (λ c κs. search needs)
-    with-tag-requires
-    slice-write-work
-    (λ c. search needs) (λ c. search needs)
-    loop-again
-    same-length
+    (tie.spec Inv-loop μ-loop (λ c. search needs) (λ c κs. search needs) (λ c. search needs) (λ c κs. search needs) loop-holds certified-at-requires
+    slice-read-with-tag (λ c κs. search needs) with-tag-requires slice-write-work (λ c. search needs) (λ c. search needs) loop-again same-length
     returns)

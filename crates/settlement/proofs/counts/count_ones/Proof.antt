@@ -44,6 +44,4 @@ returns c = let e : c .before .loop .a ≡ c .before .before .args .n = omega ar
 pub count-ones-spec : {M : Type 1} → statement M
 count-ones-spec =
     tie.close
-    (tie.spec
-    Inv-loop μ-loop loop-holds (λ c. search needs) (λ c. search needs) (λ c. search needs) (λ c. search needs)
-    loop-again returns)
+    (tie.spec Inv-loop μ-loop loop-holds (λ c. search needs) (λ c. search needs) (λ c. search needs) (λ c. search needs) loop-again returns)

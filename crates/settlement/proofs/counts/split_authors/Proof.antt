@@ -71,15 +71,5 @@ returns c =
 pub split-authors-spec : {M : Type 1} → statement M
 split-authors-spec =
     tie.close
-    (tie.spec
-    Inv-loop
-    μ-loop
-    (λ c κs. search needs)
-    loop-holds
-    (λ c. search needs)
-    twins-requires
-    (λ c κs. search needs) (λ c. search needs)
-    array-write-split
-    (λ c. search needs) (λ c. search needs)
-    loop-again
-    returns)
+    (tie.spec Inv-loop μ-loop (λ c κs. search needs) loop-holds (λ c. search needs) twins-requires (λ c κs. search needs) (λ c. search needs)
+    array-write-split (λ c. search needs) (λ c. search needs) loop-again returns)

@@ -37,9 +37,4 @@ returns-2 c =
 pub twins-spec : {M : Type 1} → statement M
 twins-spec =
     tie.close
-    (tie.spec
-    (λ c κs. search needs)
-    add-name-at
-    (λ c κs. search needs)
-    returns
-    returns-2)
+    (tie.spec (λ c κs. search needs) add-name-at (λ c κs. search needs) returns returns-2)

@@ -18,10 +18,4 @@ returns-3 c = let a = c .before .before .before .args in one-marked (a .q) (a .l
 pub mark-one-spec : {M : Type 1} → statement M
 mark-one-spec =
     tie.close
-    (tie.spec
-    (λ c. search needs)
-    returns
-    (λ c. search needs) (λ c. search needs)
-    returns-2
-    (λ c. search needs)
-    returns-3)
+    (tie.spec (λ c. search needs) returns (λ c. search needs) (λ c. search needs) returns-2 (λ c. search needs) returns-3)

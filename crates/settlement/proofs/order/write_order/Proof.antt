@@ -101,18 +101,5 @@ returns-2 c =
 pub write-order-spec : {M : Type 1} → statement M
 write-order-spec =
     tie.close
-    (tie.spec
-    Inv-loop
-    μ-loop
-    loop-holds
-    (λ c. search needs)
-    shared-slice-read-c
-    (λ c. search needs) (λ c. search needs)
-    returns
-    cast-write-leader
-    (λ c. search needs)
-    write-leader-requires
-    (λ c. search needs) (λ c. search needs)
-    loop-again
-    (λ c. search needs) (λ c. search needs)
-    returns-2)
+    (tie.spec Inv-loop μ-loop loop-holds (λ c. search needs) shared-slice-read-c (λ c. search needs) (λ c. search needs) returns cast-write-leader
+    (λ c. search needs) write-leader-requires (λ c. search needs) (λ c. search needs) loop-again (λ c. search needs) (λ c. search needs) returns-2)

@@ -27,7 +27,7 @@ use Rattle.rules.proofs.Accepted.{Accepted, earlier, find-at}
 use Rattle.rules.proofs.Support.{Has, references-is, blank-is, Backs, certifies-is, is-certifies, commit-is, skip-is}
 use Rattle.rules.proofs.History.{Downward, Follows, reached-at, history-length, history-sound, history-complete}
 use Rattle.rules.proofs.Decisions.{tell-committed}
-use Rattle.rules.proofs.Decide.{slot-is, is-slot, Chosen, chosen, nobody, choose-is, Because, direct, skips, through, blocked, past, because, past-stops, leads}
+use Rattle.rules.proofs.Decide.{slot-is, is-slot, Chosen, chosen, nobody, choose-is, certified-is, is-certified, Because, direct, skips, through, blocked, past, because, past-stops, leads}
 use Rattle.agreement.specs.Agreement.{told}
 use Rattle.agreement.proofs.Boxes.{Why, by-commit, by-skip, by-anchor, by-nothing}
 use Rattle.agreement.proofs.World as world
@@ -117,28 +117,26 @@ module _ {n : ℕ} {step : StepRule} {W : World n step} {vs : List Vertex} (T : 
 
   -- ---- the anchor's choice
 
-  certified-is : (a p : ℕ) → a < length vs → certifiedIn n vs (history step vs a) (at vs p) ≡ true → CertifiedIn W (name a) (name p)
-  unfolding certifiedIn
-  certified-is a p l e = certified-by (any-witness _ (length (history step vs a)) e)
-    where
-      certified-by : (q : ℕ) × (q < length (history step vs a)) × (getD (history step vs a) q false and certifies n vs (at vs q) (at vs p) ≡ true)
-          → CertifiedIn W (name a) (name p)
-      certified-by (q, lq, t) =
-          let la : q ≤ a = omega (arith, history-length A (T .down) follows a l) in
-          let reached = history-sound A (T .down) follows a q l la (and-left _ _ t) in
-          record { who = name q; reached = reached; certifies = certificate-is q p (omega arith) (and-right _ _ t) }
+  certified-by : (a p : ℕ) → a < length vs → certifiedIn n vs (history step vs a) (at vs p) ≡ true → CertifiedIn W (name a) (name p)
+  certified-by a p l e =
+      let c = certified-is n vs (history step vs a) (at vs p) e in
+      let la : c .who ≤ a = omega (arith, c .within, history-length A (T .down) follows a l) in
+      let reached = history-sound A (T .down) follows a (c .who) l la (c .in-history) in
+      record { who = name (c .who); reached = reached; certifies = certificate-is (c .who) p (omega arith) (c .certifies-it) }
 
-  is-certified : (a p : ℕ) → a < length vs → CertifiedIn W (name a) (name p) → certifiedIn n vs (history step vs a) (at vs p) ≡ true
-  unfolding certifiedIn
-  is-certified a p l c = found-at (reached-at A (T .down) follows a l (c .who) (c .reached))
+  by-certified : (a p : ℕ) → a < length vs → CertifiedIn W (name a) (name p) → certifiedIn n vs (history step vs a) (at vs p) ≡ true
+  by-certified a p l c = found-at (reached-at A (T .down) follows a l (c .who) (c .reached))
     where
-      found-at : (q : ℕ) × (q ≤ a) × (name q ≡ c .who)
-          → anyTo (λ q. getD (history step vs a) q false and certifies n vs (at vs q) (at vs p)) (length (history step vs a)) ≡ true
+      found-at : (q : ℕ) × (q ≤ a) × (name q ≡ c .who) → certifiedIn n vs (history step vs a) (at vs p) ≡ true
       found-at (q, la, e) =
           let reached = subst (Reaches _ (name a)) (sym e) (c .reached) in
           let certificate = subst (λ x. Certificate W x (name p)) (sym e) (c .certifies) in
-          any-intro _ (length (history step vs a)) q (omega (arith, history-length A (T .down) follows a l))
-          (and-true _ _ (history-complete A (T .down) follows a q l la reached) (is-certificate q p (omega arith) certificate))
+          is-certified n vs (history step vs a) (at vs p) (record {
+            who = q;
+            within = omega (arith, history-length A (T .down) follows a l);
+            in-history = history-complete A (T .down) follows a q l la reached;
+            certifies-it = is-certificate q p (omega arith) certificate;
+          })
 
   module _ (S : Slots) (skip : SkipRule) where
     slot-name : (s p : ℕ) → inSlot S s (at vs p) ≡ true → OfSlot S s (name p)
@@ -171,14 +169,14 @@ module _ {n : ℕ} {step : StepRule} {W : World n step} {vs : List Vertex} (T : 
     picks s a l = pick-is (choose-is A S s (certifiedIn n vs (history step vs a)) skipped)
       where
         pick-is : {d : Decision ℕ} → Chosen S vs s (certifiedIn n vs (history step vs a)) skipped d → Picked W S (Holds vs) s (name a) (tell name d)
-        pick-is (chosen p lp i c b e) = world.chose (name p) (slot-name s p i) (certified-is a p l c) (ap (tell name) e)
+        pick-is (chosen p lp i c b e) = world.chose (name p) (slot-name s p i) (certified-by a p l c) (ap (tell name) e)
         pick-is (nobody none e) = world.nobody none-of (ap (tell name) e)
           where
             none-of : (b : Name) → OfSlot S s b → Holds vs b → CertifiedIn W (name a) b → ⊥
             none-of b sb h c =
                 let p = find vs b in
                 let is = sym (find-name vs b h) in
-                not-both (is-certified a p l (subst (CertifiedIn W (name a)) is c)) (none p h (name-slot s p (subst (OfSlot S s) is sb)))
+                not-both (by-certified a p l (subst (CertifiedIn W (name a)) is c)) (none p h (name-slot s p (subst (OfSlot S s) is sb)))
 
     module _ (G : Geometry S) (law : SkipLaw skip) where
       abbrev dec : ℕ → Decision Name

@@ -15,8 +15,8 @@ use Rattle.rules.specs.Order.{order}
 use Rattle.rules.specs.Settlement.{Buffers, lentCheck, tooShort, settled, settleIf, settle}
 use Rattle.rules.proofs.Refusals.{then-passed, when-no}
 use Rattle.rules.proofs.Order.{demand-2-order}
-use Rattle.rules.proofs.Examples.{examples}
-use Rattle.rules.proofs.PastF.{past-f}
+use Rattle.examples.proofs.Examples.{examples}
+use Rattle.examples.proofs.PastF.{past-f}
 use Rattle.agreement.specs.Buffers.{SettledTo}
 use Rattle.agreement.proofs.Agreement.{demand-3}
 use Rattle.agreement.proofs.Lent.{demand-3-in-buffers}

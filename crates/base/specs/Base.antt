@@ -16,8 +16,8 @@ use Rattle.rules.specs.Decide.{boxSetting, decisions}
 use Rattle.rules.specs.Order.{order}
 use Rattle.rules.specs.Settlement.{Buffers, lent, tooShort, lentCheck, countsOf, takenBytes, writtenOver}
 use Rattle.rules.specs.Written.{Demand2Order}
-use Rattle.rules.specs.Examples.{Hold}
-use Rattle.rules.specs.PastF.{PastF}
+use Rattle.examples.specs.Examples.{Hold}
+use Rattle.examples.specs.PastF.{PastF}
 use Rattle.rules.proofs.Only.{Only}
 use Rattle.agreement.specs.Agreement.{Premises, Demand3}
 use Rattle.agreement.specs.Buffers.{AgreeIn}

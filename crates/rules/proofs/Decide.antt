@@ -14,12 +14,12 @@ use lib.Seq.{getD-drop, drop-drop}
 use borrow.Author.Tests.{eqb-true, eq-eqb, ltb-true, ltb-false}
 use Rattle.folds.specs.Folds.{_and_, anyTo, firstTo}
 use Rattle.folds.proofs.Tests.{by-test, not-both, failed, and-left, and-right, and-true, is-not, compare}
-use Rattle.folds.proofs.Laws.{any-false, First, first-is, first-by}
+use Rattle.folds.proofs.Laws.{any-false, any-witness, any-intro, First, first-is, first-by}
 use Rattle.rules.specs.declared.Vertex.{Vertex}
 use Rattle.rules.specs.Authors.{Slots}
 use Rattle.rules.specs.Record.{at}
 use Rattle.rules.specs.Decision.{Decision, undecided, skipped, committed}
-use Rattle.rules.specs.Support.{directCommit}
+use Rattle.rules.specs.Support.{certifies, directCommit}
 use Rattle.rules.specs.History.{history}
 use Rattle.rules.specs.Decide.{Setting, highest, inSlot, qualifies, lowest, choose, certifiedIn, anchor, throughAnchor, indirect, decide, decideLast, decisions, decisionAt}
 use Rattle.rules.proofs.Names.{below-mark}
@@ -105,6 +105,24 @@ chosen-lowest {vs = vs} A S s ok p q lp lq ip iq oq first = ordered (compare p q
     ordered (inl h) = omega (arith, slot-rises A S s p q h lq (slot-is _ _ _ ip) (slot-is _ _ _ iq))
     ordered (inr (inl e)) = omega (arith, ap (λ (k : ℕ). at vs k .mark) e)
     ordered (inr (inr h)) = absurd (not-both (and-true _ _ iq oq) (first q h))
+
+-- ---- certified in a history
+
+-- A vertex of the history that certifies b.
+pub record CertifiesIn (n : ℕ) (vs : List Vertex) (h : List Bool) (b : Vertex) : Type 0 where
+  pub who : ℕ
+  pub within : who < length h
+  pub in-history : getD h who false ≡ true
+  pub certifies-it : certifies n vs (at vs who) b ≡ true
+
+module _ (n : ℕ) (vs : List Vertex) (h : List Bool) (b : Vertex) where
+  pub certified-is : certifiedIn n vs h b ≡ true → CertifiesIn n vs h b
+  unfolding certifiedIn
+  certified-is e = let w = any-witness _ (length h) e in record { who = w .0; within = w .1; in-history = and-left _ _ (w .2); certifies-it = and-right _ _ (w .2) }
+
+  pub is-certified : CertifiesIn n vs h b → certifiedIn n vs h b ≡ true
+  unfolding certifiedIn
+  is-certified c = any-intro _ (length h) (c .who) (c .within) (and-true _ _ (c .in-history) (c .certifies-it))
 
 -- ---- where the anchor search stops
 

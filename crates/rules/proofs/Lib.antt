@@ -11,6 +11,6 @@ pub mod Highest
 pub mod Cells
 pub mod Places
 pub mod Order
-pub mod Examples
-pub mod PastF
+pub mod Sums
+pub mod Settled
 pub mod Only

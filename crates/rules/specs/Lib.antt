@@ -13,5 +13,3 @@ pub mod Settlement
 pub mod Program
 pub mod Open
 pub mod Tables
-pub mod Examples
-pub mod PastF

@@ -1,7 +1,8 @@
 -- Document 01, "Examples": the tables, as bytes.
 -- Assumes nothing.
 use Prim.Native.Nat.{ℕ, zero, suc, _+_, _/_, _%_}
-use mathlib.Core.List.{List, [], _∷_, _++_}
+use mathlib.Core.List.{List, [], _∷_, _++_, map}
+use mathlib.Core.Path.{_≡_}
 use Rattle.folds.specs.Folds.{sumTo}
 use Rattle.rules.specs.Record.{first, number, sumOf}
 
@@ -38,6 +39,10 @@ v r a es = summed 0 (unsummed r a 1 0 0 es)
 unfoldable pub mark2 : (round author : ℕ) → List ℕ → List ℕ
 unfolding unsummed summed
 mark2 r a es = summed 0 (unsummed r a 2 0 0 es)
+
+-- Document 01, "The record": the sums of three records, given as round, author, mark, batches, padding and entries, are 2, 15 and 1.
+abbrev pub ThreeSums : Type 0
+ThreeSums = map (sumOf first) (unsummed 1 0 1 0 0 [] ∷ unsummed 2 3 1 5 0 (1 ∷ 1 ∷ 1 ∷ 1 ∷ []) ∷ unsummed 1 2 65535 65535 0 [] ∷ []) ≡ 2 ∷ 15 ∷ 1 ∷ []
 
 -- ---- rounds
 

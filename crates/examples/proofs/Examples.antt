@@ -1,24 +1,25 @@
 -- Document 01, "Examples": P1 to P14 and the three sums hold, each by computation.
 -- Assumes nothing.
-use mathlib.Core.List.{List, [], _∷_, map}
+use mathlib.Core.List.{List, [], _∷_}
 use mathlib.Core.Path.{_≡_, refl, ap, _∙_}
 use Prim.Native.Nat.{ℕ}
 use mathlib.Core.Bool.{false}
 use lib.Dec.{ltb}
 use lib.ListN.{length}
 use Rattle.rules.specs.Refusals.{passed}
-use Rattle.rules.specs.Record.{first, sumOf, vertices}
+use Rattle.rules.specs.Record.{first, vertices}
 use Rattle.rules.specs.Check.{check}
 use Rattle.rules.specs.Decide.{boxSetting}
 use Rattle.rules.specs.Settlement.{tooShort, settled, settleIf, lentCheck, settle}
 use Rattle.rules.specs.Program.{holds, lines, printed}
 use Rattle.rules.proofs.Refusals.{then-passed, when-no}
-use Rattle.rules.specs.Tables.{unsummed, p1, p2, p3, p4, p5, p6, p7, p8, p9, p10, p11, p12, p13, p14}
-use Rattle.rules.specs.Examples.{Hold, Answer, answer, nines, a1, a2, a3, a4, a5, a6, a7, a8, a9, a10, a11, a12, a13, a14}
+use Rattle.rules.proofs.Sums.{three-sums}
+use Rattle.rules.specs.Tables.{p1, p2, p3, p4, p5, p6, p7, p8, p9, p10, p11, p12, p13, p14}
+use Rattle.examples.specs.Examples.{Hold, Answer, answer, nines, a1, a2, a3, a4, a5, a6, a7, a8, a9, a10, a11, a12, a13, a14}
 use Rattle.rules.specs.Open.{rules-open}
 
 -- The answer for a table that passes. What is printed and what is settled go through the same check, so that is computed once.
-by-parts : (t : List ℕ) (a : Answer) → check first 4 t ≡ passed → ltb holds (length (4 ∷ t)) ≡ false → tooShort (boxSetting 4) (vertices first t) nines ≡ false
+pub by-parts : (t : List ℕ) (a : Answer) → check first 4 t ≡ passed → ltb holds (length (4 ∷ t)) ≡ false → tooShort (boxSetting 4) (vertices first t) nines ≡ false
     → lines passed (boxSetting 4) 4 (vertices first t) ≡ a .prints → settled (boxSetting 4) 4 (vertices first t) nines ≡ a .settles → answer t ≡ a
 unfolding printed settle lentCheck settleIf
 by-parts t a c h l e f =
@@ -85,12 +86,8 @@ ex14 : answer p14 ≡ a14
 unfolding rules-open p14
 ex14 = refl
 
-sums : map (sumOf first) (unsummed 1 0 1 0 0 [] ∷ unsummed 2 3 1 5 0 (1 ∷ 1 ∷ 1 ∷ 1 ∷ []) ∷ unsummed 1 2 65535 65535 0 [] ∷ []) ≡ 2 ∷ 15 ∷ 1 ∷ []
-unfolding rules-open unsummed
-sums = refl
-
 pub examples : Hold
 examples = record {
-  three-sums = sums;
+  sums = three-sums;
   fourteen = λ i. ex1 i ∷ ex2 i ∷ ex3 i ∷ ex4 i ∷ ex5 i ∷ ex6 i ∷ ex7 i ∷ ex8 i ∷ ex9 i ∷ ex10 i ∷ ex11 i ∷ ex12 i ∷ ex13 i ∷ ex14 i ∷ [];
 }

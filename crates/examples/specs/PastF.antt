@@ -4,8 +4,8 @@
 use mathlib.Core.List.{List, [], _∷_, _++_}
 use mathlib.Core.Path.{_≡_}
 use Prim.Native.Nat.{ℕ}
 use Rattle.rules.specs.Tables.{v, mark2, not0, not3}
-use Rattle.rules.specs.Examples.{Answer, answer, counts, settledAs}
+use Rattle.examples.specs.Examples.{Answer, answer, counts, settledAs}
 
 -- Authors 0, 1, 2 support (1,0,1) in round 2 and certify it in round 3. In round 2 authors 1, 2, 3 each have a vertex that is blank for round 1:
 -- authors 1 and 2 have both.

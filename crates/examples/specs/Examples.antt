@@ -7,13 +7,13 @@ use Prim.Native.String.{String}
 use mathlib.Core.List.{List, [], _∷_, _++_, map}
 use mathlib.Core.Path.{_≡_}
 use lib.ListN.{length, replicate}
 use Rattle.rules.specs.declared.Counts.{Counts}
 use Rattle.rules.specs.Refusals.{gives, refusal}
-use Rattle.rules.specs.Record.{first, sumOf}
+use Rattle.rules.specs.Record.{first}
 use Rattle.rules.specs.Decide.{boxSetting}
 use Rattle.rules.specs.Settlement.{Buffers, Settles, settle}
 use Rattle.rules.specs.Program.{bytesOf, printed}
-use Rattle.rules.specs.Tables.{unsummed, p1, p2, p3, p4, p5, p6, p7, p8, p9, p10, p11, p12, p13, p14}
+use Rattle.rules.specs.Tables.{ThreeSums, p1, p2, p3, p4, p5, p6, p7, p8, p9, p10, p11, p12, p13, p14}
 
 -- ---- what is asked, and how an answer is written down
 
@@ -135,7 +135,6 @@ a14 = refusedAs "X 8 3\n" 8 3
 -- ---- the single statement
 
 pub record Hold : Type 0 where
-  -- round, author, mark, batches, padding, entries: 2, 15, 1
-  pub three-sums : map (sumOf first) (unsummed 1 0 1 0 0 [] ∷ unsummed 2 3 1 5 0 (1 ∷ 1 ∷ 1 ∷ 1 ∷ []) ∷ unsummed 1 2 65535 65535 0 [] ∷ []) ≡ 2 ∷ 15 ∷ 1 ∷ []
+  pub sums : ThreeSums
   pub fourteen : map answer (p1 ∷ p2 ∷ p3 ∷ p4 ∷ p5 ∷ p6 ∷ p7 ∷ p8 ∷ p9 ∷ p10 ∷ p11 ∷ p12 ∷ p13 ∷ p14 ∷ [])
       ≡ a1 ∷ a2 ∷ a3 ∷ a4 ∷ a5 ∷ a6 ∷ a7 ∷ a8 ∷ a9 ∷ a10 ∷ a11 ∷ a12 ∷ a13 ∷ a14 ∷ []

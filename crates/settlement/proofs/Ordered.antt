@@ -21,12 +21,12 @@ use Rattle.rules.specs.declared.Vertex.{Vertex}
 use Rattle.rules.specs.Record.{at, nameOf}
 use Rattle.rules.specs.Decision.{Decision, undecided, skipped, committed, cell}
 use Rattle.rules.specs.History.{StepRule, history}
-use Rattle.rules.specs.Decide.{Setting, boxSetting, highest, decisions, decisionAt}
+use Rattle.rules.specs.Decide.{Setting, highest, decisions, decisionAt}
 use Rattle.rules.specs.Order.{notYet, writeFrom, order}
 use Rattle.rules.specs.Settlement.{writtenOver, takenBytes}
 use Rattle.rules.proofs.Accepted.{Accepted}
 use Rattle.rules.proofs.Decide.{decisions-length, leads}
-use Rattle.rules.proofs.Slots.{one-leader}
+use Rattle.rules.proofs.Slots.{Geometry}
 use Rattle.settlement.specs.Write.{placesOver, written, WrittenSoFar, fresh, Led, Ordered}
 use Rattle.decide.proofs.Marked.{Walks, history-size, history-past, history-low, history-step}
 use Rattle.folds.proofs.Over.{over-at, over-length, over-same, over-over, over-none}
@@ -302,10 +302,10 @@ module _ {C : Setting} {n : ℕ} {vs : List Vertex} {o m₀ m : List ℕ} {s cou
 
 -- ---- the leader vertex of a cell
 
--- a slot of the box is a round
-pub slot-low : (n : ℕ) (vs : List Vertex) {s : ℕ} → s < highest vs → s < length (decisions (boxSetting n) n vs)
-slot-low n vs l = rw (decisions-length (boxSetting n) n vs) l
+module _ (C : Setting) where
+  pub slot-low : (n : ℕ) (vs : List Vertex) {s : ℕ} → s < C .slots .upTo (highest vs) → s < length (decisions C n vs)
+  slot-low n vs l = rw (decisions-length C n vs) l
 
-pub cell-leader : {n : ℕ} {vs : List Vertex} → Accepted n vs → (s c : ℕ) → c ≡ cell (decisionAt (decisions (boxSetting n) n vs) s) → c ≢ 0 → c ≢ 1
-    → (decisionAt (decisions (boxSetting n) n vs) s ≡ committed (c - 2)) × (c - 2 < length vs)
-cell-leader {n} {vs} A s c e z o = let d = cell-committed _ c e z o in (d, leads (boxSetting n) (one-leader n .later) A s (c - 2) d .0)
+  pub cell-leader : Geometry (C .slots) → {n : ℕ} {vs : List Vertex} → Accepted n vs → (s c : ℕ) → c ≡ cell (decisionAt (decisions C n vs) s)
+      → c ≢ 0 → c ≢ 1 → (decisionAt (decisions C n vs) s ≡ committed (c - 2)) × (c - 2 < length vs)
+  cell-leader G A s c e z o = let d = cell-committed _ c e z o in (d, leads C (G .later) A s (c - 2) d .0)

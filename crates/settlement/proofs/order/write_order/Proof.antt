@@ -12,6 +12,7 @@ use Rattle.rules.proofs.Decide.{decisions-length}
 use Rattle.decide.proofs.Sound.{ready-on}
 use Rattle.decide.proofs.Marked.{by-references}
 use Rattle.settlement.specs.Write.{Fits}
+use Rattle.rules.proofs.Slots.{one-leader}
 use Rattle.settlement.proofs.Ordered.{Upto, upto-start, upto-told, upto-count, upto-skip, upto-commit, upto-stop, upto-end, slot-low, cell-undecided, cell-skipped, cell-leader}
 use native.Mathlib.Omega.{arith}
 use borrow.Author.Needs.{needs}
@@ -46,7 +47,8 @@ returns c =
     let D = g .pre .0 in
     let low : l .loop .s < highest (vertices first (g .args .table .now)) = omega (arith, g .pre .1) in
     let empty : getD (g .args .cells .now) (l .loop .s) 0 ≡ 0 = omega (arith, c .if1 .taken) in
-    upto-stop (D .cleared) (l .loop .inv .1) (slot-low _ _ low) (cell-undecided _ (sym (D .in-cells .held (l .loop .s) (omega arith) low) ∙ empty))
+    let holds = D .in-cells .held (l .loop .s) (omega arith) low in
+    upto-stop (D .cleared) (l .loop .inv .1) (slot-low (boxSetting _) _ _ low) (cell-undecided _ (sym holds ∙ empty))
 
 cast-write-leader : tie.Need-cast-write-leader Inv-loop μ-loop
 cast-write-leader c =
@@ -63,7 +65,7 @@ write-leader-requires c κs =
     let U = l .loop .inv .1 in
     let x = c .before .before in
     let holds = D .in-cells .held (l .loop .s) (omega arith) (omega (arith, g .pre .1)) in
-    let led = cell-leader A (l .loop .s) _ holds (x .before .if1 .left) (x .if2 .taken) in
+    let led = cell-leader (boxSetting _) (one-leader _) A (l .loop .s) _ holds (x .before .if1 .left) (x .if2 .taken) in
     let fits : Fits first (g .args .n) (g .args .table .now) (l .loop .order) (l .loop .taken) =
     record { ready = ready-on R (U .kept); places = omega (arith, D .fits .places, U .kept-places) } in
     (fits, (led .1, (upto-told A (by-references A) (R .room) (D .fits .places) U, upto-count A (by-references A) (R .room) (D .fits .places) U)))
@@ -79,15 +81,16 @@ loop-again c =
     let j = l .loop .s in
     let low : j < highest (vertices first (g .args .table .now)) = omega (arith, g .pre .1) in
     let holds = D .in-cells .held j (omega arith) low in
+    let slot = slot-low (boxSetting _) _ _ low in
     ⊎-elim
     (λ x.
-    let led = cell-leader A j _ holds (c .before .if1 .left) (x .0 .taken) in
+    let led = cell-leader (boxSetting _) (one-leader _) A j _ holds (c .before .if1 .left) (x .0 .taken) in
     let next =
-    upto-commit A (by-references A) (R .room) (D .fits .places) U (getD (g .args .cells .now) j 0 - 2) (led .1) (slot-low _ _ low) (led .0) (x .3 .result)
+    upto-commit A (by-references A) (R .room) (D .fits .places) U (getD (g .args .cells .now) j 0 - 2) (led .1) slot (led .0) (x .3 .result)
     (x .3 .last .1 .1 .1 .0) (x .3 .last .1 .1 .1 .1 .0) (x .3 .ensures) in
     (omega arith, rw (x .8, x .9, x .10) next))
     (λ x.
-    let next = upto-skip A (by-references A) (R .room) (D .fits .places) U (slot-low _ _ low) (cell-skipped _ (sym holds ∙ x .0 .left)) in
+    let next = upto-skip A (by-references A) (R .room) (D .fits .places) U slot (cell-skipped _ (sym holds ∙ x .0 .left)) in
     (omega arith, rw (x .1, x .2, x .3) next))
     (c .if2 .came)
 

@@ -131,8 +131,10 @@ pub fn line_refused(r: Refusal, out: &mut [u8]) -> usize
     ensures { λ k. ⌜ Fills (lineX (rowOf r .number) (rowOf r .values)) (now (out .entry)) (now (out .exit)) k ⌝ }
 {
     let x = refusals::number_of(r);
-    let l = with_number(begun(b'X'), x.number as u64);
-    ended(with_number(l, x.position as u64), out)
+    let number = x.number as u64;
+    let position = x.position as u64;
+    let l = with_number(begun(b'X'), number);
+    ended(with_number(l, position), out)
 }
 
 // `S records highest-round first-undecided written equivocators`

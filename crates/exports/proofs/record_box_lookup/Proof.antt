@@ -1,6 +1,6 @@
 -- `exports::record_box_lookup` meets its contract: where the record stands, or the first zero bytes.
 -- Assumes nothing.
-use mathlib.Core.Path.{sym, ap, _∙_}
+use mathlib.Core.Path.{refl, sym, ap, _∙_}
 use native.Mathlib.Omega.{arith}
 use Rattle.rules.specs.Record.{named}
 use Rattle.lookup.specs.Standing.{standingTells}
@@ -23,7 +23,7 @@ returns c =
     let a = s .before .before .args in
     let x = named (a .round) (a .author) (a .mark) in
     let e = ap standingTells (sym (c .before .s .given .1)) ∙ s .stands-at .ensures in
-    rw (begin-found (a .n) (a .table .now) x _ e, length-found (a .n) (a .table .now) x _ e)
+    rw (begin-found (a .n) (a .table .now) x _ e, length-found (a .n) (a .table .now) x _ e) refl
 
 returns-2 : tie.Need-returns-2
 returns-2 c =

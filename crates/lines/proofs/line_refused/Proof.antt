@@ -18,8 +18,8 @@ returns c =
     let e = c .before .before in
     let e2 = e .before .before in
     let e1 = e2 .before in
-    let e0 = e1 .before .before in
-    let x = e0 .before in
+    let e0 = e1 .before in
+    let x = e0 .before .before in
     let r = x .before .before .args .r in
     let letter : Begun 88 (e0 .begun .result) = e0 .begun .ensures in
     let first : Numbered (e0 .begun .result) (x .number-of .result .number) (e1 .with-number .result) = e1 .with-number .ensures in
@@ -34,5 +34,5 @@ returns c =
 pub line-refused-spec : {M : Type 1} → statement M
 line-refused-spec =
     tie.close
-    (tie.spec (λ c κs. search needs) (λ c κs. search needs) (λ c. search needs) (λ c κs. search needs) (λ c κs. search needs) (λ c κs. search needs)
+    (tie.spec (λ c κs. search needs) (λ c. search needs) (λ c κs. search needs) (λ c κs. search needs) (λ c κs. search needs) (λ c κs. search needs)
     (λ c. search needs) returns)

@@ -6,7 +6,7 @@ use mathlib.Core.Logic.{⊎-elim}
 use lib.ListN.{length, getD, length-set}
 use Rattle.rules.specs.Record.{first, vertices}
 use Rattle.references.specs.Places.{placesOf}
-use Rattle.references.proofs.Found.{reference-at, no-reference}
+use Rattle.references.proofs.Found.{reference-at, no-reference, holds-before}
 use Rattle.decide.proofs.Sweeps.{MarkedTo, marked-none, marked-all, marked-skip, marked-one}
 use native.Mathlib.Omega.{arith}
 use borrow.Author.Needs.{needs}
@@ -54,14 +54,14 @@ loop-again c =
     let m = l .loop .work in
     let i = l .loop .i in
     let A = s .pre .0 .sound .accepted in
-    let q : getD (P .places-of .result) i 0 ≡ getD (placesOf (s .args .n) t p) i 0 = ap (λ x. getD x i 0) (P .places-of .ensures) in
+    let q : getD (P .places-of .result) i 0 ≡ getD (placesOf (s .args .n) t p p) i 0 = ap (λ x. getD x i 0) (P .places-of .ensures) in
     let few : i < 31 = omega (arith, A .few) in
     ⊎-elim
     (λ w.
-    let found = reference-at t A p (s .pre .1) i few (omega (arith, q, w .0 .taken)) in
+    let found = reference-at t A p p (s .pre .1) (holds-before A p (s .pre .1)) i few (omega (arith, q, w .0 .taken)) in
     (omega arith, rw (w .3) (simp length-set (l .loop .inv .1)), rw (w .3) (marked-one A p (s .pre .1) (s .args .work .now) m i _ (w .2 .result) (found .given) (q ∙ found .place) (omega arith) (w .2 .ensures) (l .loop .inv .2))))
     (λ w.
-    let empty = no-reference t A p (s .pre .1) i few (omega (arith, q, w .0 .left)) in
+    let empty = no-reference t A p p (s .pre .1) (holds-before A p (s .pre .1)) i few (omega (arith, q, w .0 .left)) in
     (omega arith, rw (w .1) (l .loop .inv .1), rw (w .1) (marked-skip A p (s .pre .1) (s .args .work .now) m i empty (l .loop .inv .2))))
     (c .if1 .came)
 

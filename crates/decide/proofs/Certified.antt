@@ -25,7 +25,7 @@ use Rattle.rules.proofs.Accepted.{Accepted, mark-pos, entry-low, find-at}
 use Rattle.rules.proofs.Support.{references-is, is-references}
 use Rattle.search.specs.Search.{findBelow}
 use Rattle.search.proofs.Finds.{find-below}
-use Rattle.references.specs.Places.{placesOf}
+use Rattle.references.specs.Places.{placesOf, HoldsAll}
 use Rattle.references.proofs.Found.{reference-at, no-reference}
 use Rattle.tally.specs.Marks.{countMark, enoughOf}
 use Rattle.tally.proofs.Marks.{enough-is, enough-some}
@@ -181,6 +181,10 @@ module _ {n : ℕ} {vs : List Vertex} (A : Accepted n vs) where
               let h : quorum n ≤ countMark marks (at vs p .mark) = leb-true _ _ (sym (certifies-slot p l r a) ∙ and-right _ _ t) in
               name-same _ _ (name-path _ _ r a (sym (some-mark (at vs p .mark) (mark-pos A p l) h)))
 
+      -- with no such mark none is certified
+      pub certified-none : enoughOf marks (quorum n) ≡ 0 → length vs ≡ certifiedAt n vs round leader w
+      certified-none z = omega (arith, certified-is, certified-first n vs round leader w .within, no-mark (named round leader (enoughOf marks (quorum n))) z)
+
       -- of a vertex of the slot, it is the one found exactly when it is certified
       pub certified-test : (p : ℕ) → p < length vs → at vs p .round ≡ round → at vs p .author ≡ leader
           → eqb (certifiedAt n vs round leader w) p ≡ certifies n vs v (at vs p)
@@ -197,15 +201,16 @@ module _ {n : ℕ} {vs : List Vertex} (A : Accepted n vs) where
               let m = some-mark (at vs p .mark) (mark-pos A p l) h in
               sym certified-is ∙ ap (find vs) (name-path (named round leader (enoughOf marks (quorum n))) (nameOf (at vs p)) (sym r) (sym a) m) ∙ find-at A p l
 
--- what is read where the references of the vertex at w stand
-module _ {n : ℕ} (t : List ℕ) (A : Accepted n (vertices first t)) (w leader : ℕ) (lw : w < length (vertices first t)) where
-  pub backed-at : (i q b : ℕ) → i < 31 → q ≡ getD (placesOf n t w) i 0 → b ≡ cond (ltb q w) (entry (at (vertices first t) q) leader) 0
+-- what is read where the references of the vertex at w stand, among the first k records
+module _ {n : ℕ} (t : List ℕ) (A : Accepted n (vertices first t)) (w k leader : ℕ) (lw : w < length (vertices first t))
+    (H : HoldsAll (vertices first t) w k) where
+  pub backed-at : (i q b : ℕ) → i < 31 → q ≡ getD (placesOf n t w k) i 0 → b ≡ cond (ltb q k) (entry (at (vertices first t) q) leader) 0
       → b ≡ entry (vertexOf (vertices first t) (entryName (at (vertices first t) w) i)) leader
   unfolding vertexOf
   backed-at i q b li is e =
-      by-test (ltb q w) (λ h. e ∙ rw h (low (rw is at (ltb-true q w h))))
-      (λ h. e ∙ rw h (sym (backs-none A w leader lw i (no-reference t A w lw i li (rw is at (ltb-false q w h))))))
+      by-test (ltb q k) (λ h. e ∙ rw h (low (rw is at (ltb-true q k h))))
+      (λ h. e ∙ rw h (sym (backs-none A w leader lw i (no-reference t A w k lw H i li (rw is at (ltb-false q k h))))))
     where
-      low : getD (placesOf n t w) i 0 < w
+      low : getD (placesOf n t w k) i 0 < k
           → entry (at (vertices first t) q) leader ≡ entry (vertexOf (vertices first t) (entryName (at (vertices first t) w) i)) leader
-      low h = rw (is, reference-at t A w lw i li h .place)
+      low h = rw (is, reference-at t A w k lw H i li h .place)

@@ -1,8 +1,8 @@
 -- Where the records of a round, and of an author in it, stand in a table that passed: names rise, so they stand side by side.
 -- Assumes nothing.
-use Prim.Native.Nat.{ℕ, _+_, _≤_, _<_, min}
+use Prim.Native.Nat.{ℕ, pred, _+_, _≤_, _<_, min}
 use mathlib.Core.Path.{_≡_, sym, ap, _∙_}
-use mathlib.Core.Logic.{_⊎_, inl, inr}
+use mathlib.Core.Logic.{_⊎_, inl, inr, _≢_}
 use mathlib.Core.Bool.{true, not}
 use mathlib.Core.List.{List}
 use native.Mathlib.Omega.{arith}
@@ -14,13 +14,14 @@ use Rattle.folds.specs.Folds.{_and_, _or_}
 use Rattle.folds.proofs.Tests.{by-test, not-both, and-left, and-right, and-true, or-cases, or-left, or-right, not-true, not-false}
 use Rattle.folds.proofs.Laws.{First, first-is, first-by, first-same}
 use Rattle.rules.specs.declared.Vertex.{Vertex}
-use Rattle.rules.specs.Record.{first, records, vertices, at, nameOf, below, named}
+use Rattle.rules.specs.Record.{first, records, vertices, at, nameOf, entry, entryName, below, find, named}
 use Rattle.rules.proofs.Records.{vertices-length}
-use Rattle.rules.proofs.Accepted.{Accepted, rising}
+use Rattle.rules.proofs.Accepted.{Accepted, round-pos, rising, earlier, entry-vertex}
 use Rattle.rules.proofs.Names.{Below, below-is, is-below, below-trans}
 use Rattle.search.specs.Search.{nameAt, placeOf}
 use Rattle.search.proofs.Names.{name-at}
 use Rattle.search.proofs.Finds.{place-first, rise-all}
+use Rattle.references.specs.Places.{HoldsAll}
 use Rattle.decide.specs.Range.{startOf}
 
 -- of a lower round, or of the round and by a lower author
@@ -155,6 +156,17 @@ module _ {n : ℕ} {vs : List Vertex} (A : Accepted n vs) where
       not-under : Under (at vs q) r 0 → ⊥
       not-under (inl u) = omega (arith, s .round)
       not-under (inr (e, u)) = omega arith
+
+-- what a vertex of the round references stands before the round begins
+pub round-holds : {n : ℕ} {vs : List Vertex} → Accepted n vs → (r q : ℕ) → InRound vs r q → HoldsAll vs q (startOf vs r 0)
+round-holds {n} {vs} A r q s = record { within = start-bound A r 0; held = before }
+  where
+    before : (i : ℕ) → entry (at vs q) i ≢ 0 → find vs (entryName (at vs q) i) < startOf vs r 0
+    before i f =
+        let p = find vs (entryName (at vs q) i) in
+        let l : p < q = earlier A q i (s .within) f in
+        let down : at vs p .round ≡ pred (at vs q .round) = ap (λ x. x .round) (entry-vertex A q i (s .within) f) in
+        under-start A r 0 p (omega (arith, s .within)) (inl (omega (arith, down, s .round, round-pos A q (s .within))))
 
 -- the place that the search by halves of the code gives
 pub start-is : {n : ℕ} (t : List ℕ) → Accepted n (vertices first t) → (r a p : ℕ) → p ≡ placeOf t (min (records first t) (records first t)) (named r a 0)

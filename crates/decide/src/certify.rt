@@ -5,6 +5,7 @@ ghost use Prim.Native.Nat.{_+_, _≤_, _<_};
 ghost use lib.Dec.{ltb};
 ghost use Rattle.rules.specs.Record.{first, at, entry};
 ghost use Rattle.decide.specs.Ready.{verticesOf, recordsOf, Sound};
+ghost use Rattle.references.specs.Places.{HoldsAll};
 ghost use Rattle.decide.specs.Certify.{backs, certifiedAt};
 use record::entry_at;
 use references::places_of;
@@ -13,46 +14,60 @@ use search::find;
 use tally::enough_of;
 use tally::quorum_of;
 
-// The mark that the vertex at q holds for the leader, if q is below w, and else 0.
-fn back(table: &[u8], q: usize, w: usize, leader: u8) -> u32
-    requires { ⌜ w ≤ recordsOf (now table) ⌝ }
-    ensures { λ r. ⌜ r ≡ cond (ltb q w) (entry (at (verticesOf (now (table .entry))) q) leader) 0 ⌝ }
+// The mark that the vertex at q holds for the leader, if q is below `count`, and else 0.
+fn back(table: &[u8], q: usize, count: usize, leader: u8) -> u32
+    requires { ⌜ count ≤ recordsOf (now table) ⌝ }
+    ensures { λ r. ⌜ r ≡ cond (ltb q count) (entry (at (verticesOf (now (table .entry))) q) leader) 0 ⌝ }
 {
-    if q < w {
+    if q < count {
         return entry_at(table, q, leader as usize);
     }
     0
 }
 
-// The marks that the references of the vertex at w back, one for each author.
-fn backing(n: u8, table: &[u8], w: usize, leader: u8) -> [u32; 31]
+// The marks that the references of the vertex at w back, one for each author. They are among the first `count` records.
+fn backing(n: u8, table: &[u8], w: usize, count: usize, leader: u8) -> [u32; 31]
     requires { ⌜ Sound first n (now table) ⌝ }
     requires { ⌜ w < recordsOf (now table) ⌝ }
+    requires { ⌜ HoldsAll (verticesOf (now table)) w count ⌝ }
     ensures { λ r. ⌜ r ≡ backs (verticesOf (now (table .entry))) w leader ⌝ }
 {
-    let places = places_of(n, table, w);
+    let places = places_of(n, table, w, count);
     let k = n as usize;
     let mut marks = [0u32; 31];
     let mut i: usize = 0;
     while i < k {
-        marks[i] = back(table, places[i], w, leader);
+        marks[i] = back(table, places[i], count, leader);
         i += 1;
     }
     marks
 }
 
-// Where the vertex of that round and leader stands that the vertex at w certifies, or the number of records.
-pub(crate) fn certified_at(n: u8, table: &[u8], w: usize, round: u32, leader: u8) -> usize
+// Where the vertex of that round and leader stands that the vertex at w certifies, or the number of records. What that one references is
+// among the first `count` records. No vertex has mark 0, so none is looked for.
+pub(crate) fn certified_at(
+    n: u8,
+    table: &[u8],
+    w: usize,
+    count: usize,
+    round: u32,
+    leader: u8,
+) -> usize
     requires { ⌜ Sound first n (now table) ⌝ }
     requires { ⌜ w < recordsOf (now table) ⌝ }
+    requires { ⌜ HoldsAll (verticesOf (now table)) w count ⌝ }
     requires { ⌜ at (verticesOf (now table)) w .round ≡ round + 2 ⌝ }
     ensures { λ r. ⌜ r ≡ certifiedAt n (verticesOf (now (table .entry))) round leader w ⌝ }
 {
-    let marks = backing(n, table, w, leader);
+    let marks = backing(n, table, w, count, leader);
     let mark = enough_of(marks, quorum_of(n));
+    let k = record::records_of(table);
+    if mark == 0 {
+        return k;
+    }
     find(
         table,
-        record::records_of(table),
+        k,
         Name {
             round,
             author: leader,

@@ -66,7 +66,7 @@ fn mark_refs(n: u8, table: &[u8], p: usize, work: &mut [u8])
     ensures { λ r. ⌜ length (now (work .exit)) ≡ length (now (work .entry)) ⌝ }
     ensures { λ r. ⌜ Handed references (verticesOf (now (table .entry))) p (now (work .entry)) (now (work .exit)) ⌝ }
 {
-    let places = places_of(n, table, p);
+    let places = places_of(n, table, p, p);
     let k = n as usize;
     let mut i: usize = 0;
     while i < k {
@@ -153,11 +153,12 @@ pub(crate) fn certified_in(
         (certifiedIn n (verticesOf (now (table .entry))) (history references (verticesOf (now (table .entry))) a)) ⌝ }
 {
     let end = begin(n, table, round + 3, 0);
-    let mut w = begin(n, table, round + 2, 0);
+    let from = begin(n, table, round + 2, 0);
+    let mut w = from;
     let mut best = record::records_of(table);
     while w < end {
         if 128 <= work[w] {
-            best = smaller(best, certified_at(n, table, w, round, leader));
+            best = smaller(best, certified_at(n, table, w, from, round, leader));
         }
         w += 1;
     }

@@ -75,9 +75,10 @@ pub(crate) fn tag_certified(
         (λ w. windowTag (certifiedAt n (verticesOf (now (table .entry))) round leader w) b e) (now (work .entry)) (now (work .exit)) ⌝ }
 {
     let end = begin(n, table, round + 3, 0);
-    let mut w = begin(n, table, round + 2, 0);
+    let from = begin(n, table, round + 2, 0);
+    let mut w = from;
     while w < end {
-        let p = certified_at(n, table, w, round, leader);
+        let p = certified_at(n, table, w, from, round, leader);
         work[w] = with_tag(work[w], window_tag(p, b, e));
         w += 1;
     }
@@ -106,11 +107,12 @@ pub(crate) fn authors_tagged(n: u8, table: &[u8], round: u32, tag: u8, work: &[u
     ensures { λ r. ⌜ r ≡ authorsTagged n (verticesOf (now (table .entry))) round tag (now (work .entry)) ⌝ }
 {
     let mut c: usize = 0;
+    let mut from = begin(n, table, round, 0);
     let mut a: u8 = 0;
     while a < n {
-        let from = begin(n, table, round, a);
         let to = begin(n, table, round, a + 1);
         c += once(count_tagged(work, from, to, tag));
+        from = to;
         a += 1;
     }
     c

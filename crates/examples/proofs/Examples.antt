@@ -19,7 +19,8 @@ use Rattle.examples.specs.Examples.{Hold, Answer, answer, nines, a1, a2,
 use Rattle.rules.specs.Open.{rules-open}
 
 -- The answer for a table that passes. What is printed and what is settled go through the same check, so that is computed once.
-pub by-parts : (t : List ℕ) (a : Answer) → check first 4 t ≡ passed → ltb holds (length (4 ∷ t)) ≡ false → tooShort (boxSetting 4) (vertices first t) nines ≡ false
+pub by-parts : (t : List ℕ) (a : Answer) → check first 4 t ≡ passed → ltb holds (length (4 ∷ t)) ≡ false
+    → tooShort (boxSetting 4) (vertices first t) nines ≡ false
     → lines passed (boxSetting 4) 4 (vertices first t) ≡ a .prints → settled (boxSetting 4) 4 (vertices first t) nines ≡ a .settles → answer t ≡ a
 unfolding printed settle lentCheck settleIf
 by-parts t a c h l e f =

@@ -1,4 +1,4 @@
--- Where the references of a record stand, on a table that passed: where `find` of the rules finds them, and before the record.
+-- Where the references of a record stand, on a table that passed: where `find` of the rules finds them.
 -- Assumes nothing.
 use Prim.Native.Nat.{ℕ, _≤_, _<_, min}
 use mathlib.Core.Path.{_≡_, refl, sym, _∙_, subst}
@@ -22,7 +22,7 @@ use Rattle.rules.proofs.Accepted.{Accepted, entry-low, earlier, rising}
 use Rattle.search.specs.Search.{nameAt, placeOf, findBelow}
 use Rattle.search.proofs.Names.{name-at}
 use Rattle.search.proofs.Search.{Falls, halves-first, found-here}
-use Rattle.references.specs.Places.{placeAmong, placesAmong, placesOf}
+use Rattle.references.specs.Places.{placeAmong, placesAmong, placesOf, HoldsAll}
 
 -- a name that stands among the first p records is found among them
 module _ {n : ℕ} (t : List ℕ) (A : Accepted n (vertices first t)) (x : Name) (p : ℕ) (w : p ≤ records first t) (h : find (vertices first t) x < p) where
@@ -67,40 +67,45 @@ module _ {n : ℕ} (t : List ℕ) (A : Accepted n (vertices first t)) (x : Name)
         hit = λ l. is-not (over f (le-refl f) l);
       }))
 
--- ---- the references of the record at p
+-- ---- the references of the record at p, among the first k records, which hold them all
 
-module _ {n : ℕ} (t : List ℕ) (A : Accepted n (vertices first t)) (p : ℕ) (l : p < length (vertices first t)) (i : ℕ) (li : i < 31) where
+module _ {n : ℕ} (t : List ℕ) (A : Accepted n (vertices first t)) (p k : ℕ) (l : p < length (vertices first t)) (H : HoldsAll (vertices first t) p k)
+    (i : ℕ) (li : i < 31) where
   abbrev v : Vertex
   v = at (vertices first t) p
 
-  few : p < records first t
-  few = rw (← vertices-length first t) l
+  few : k ≤ records first t
+  few = rw (← vertices-length first t) (H .within)
 
-  place-at : getD (placesOf n t p) i 0 ≡ cond (ltb i n) (placeAmong t p (entryName v i)) p
+  place-at : getD (placesOf n t p k) i 0 ≡ cond (ltb i n) (placeAmong t k (entryName v i)) k
   unfolding placesOf placesAmong
-  place-at = rw (← vertices-at first t p few) (getD-tabulate (λ j. cond (ltb j n) (placeAmong t p (entryName v j)) p) 31 i 0 li)
+  place-at =
+      rw (← vertices-at first t p (rw (← vertices-length first t) l)) (getD-tabulate (λ j. cond (ltb j n) (placeAmong t k (entryName v j)) k) 31 i 0 li)
 
-  none-at : entry v i ≡ 0 → getD (placesOf n t p) i 0 ≡ p
+  none-at : entry v i ≡ 0 → getD (placesOf n t p k) i 0 ≡ k
   unfolding placeAmong
   none-at z = place-at ∙ by-test (ltb i n) (λ e. rw (e, eq-eqb _ _ z)) (λ e. rw e)
 
-  found-at : entry v i ≢ 0 → (getD (placesOf n t p) i 0 ≡ find (vertices first t) (entryName v i)) × (getD (placesOf n t p) i 0 < p)
+  found-at : entry v i ≢ 0 → (getD (placesOf n t p k) i 0 ≡ find (vertices first t) (entryName v i)) × (getD (placesOf n t p k) i 0 < k)
   unfolding placeAmong
   found-at f =
-      let low : find (vertices first t) (entryName v i) < p = earlier A p i l f in
-      let all : min p (records first t) ≡ p = omega (arith, few) in
-      let q : getD (placesOf n t p) i 0 ≡ find (vertices first t) (entryName v i) =
-      place-at ∙ rw (lt-ltb i n (entry-low A p i l f), ne-eqb _ _ f, all) (find-among t A (entryName v i) p (omega (arith, few)) low) in
-      (q, rw q low)
+      let all : min k (records first t) ≡ k = omega (arith, few) in
+      let q : getD (placesOf n t p k) i 0 ≡ find (vertices first t) (entryName v i) =
+      place-at ∙ rw (lt-ltb i n (entry-low A p i l f), ne-eqb _ _ f, all) (find-among t A (entryName v i) k few (H .held i f)) in
+      (q, rw q (H .held i f))
 
-  -- a place below p is that of a reference
+  -- a place below k is that of a reference
   pub record Reference (q : ℕ) : Type 0 where
     pub given : entry v i ≢ 0
     pub place : q ≡ find (vertices first t) (entryName v i)
 
-  pub reference-at : getD (placesOf n t p) i 0 < p → Reference (getD (placesOf n t p) i 0)
+  pub reference-at : getD (placesOf n t p k) i 0 < k → Reference (getD (placesOf n t p k) i 0)
   reference-at h = let f : entry v i ≢ 0 = λ z. omega (arith, none-at z) in record { given = f; place = found-at f .0 }
 
   -- another one is of none
-  pub no-reference : p ≤ getD (placesOf n t p) i 0 → entry v i ≡ 0
+  pub no-reference : k ≤ getD (placesOf n t p k) i 0 → entry v i ≡ 0
   no-reference h = by-test (eqb (entry v i) 0) (λ e. eqb-true _ _ e) (λ e. absurd (omega (arith, found-at (eqb-false _ _ e) .1)))
+
+-- all stand before the record itself
+pub holds-before : {n : ℕ} {vs : List Vertex} → Accepted n vs → (p : ℕ) → p < length vs → HoldsAll vs p p
+holds-before A p l = record { within = omega arith; held = λ i f. earlier A p i l f }

@@ -13,16 +13,17 @@ fn round_before(round: u32) -> u32
     if round == 0 { 0 } else { round - 1 }
 }
 
-// Where the references of the record at p to the first n authors stand, one for each author: below p, if there is one that names an earlier
-// record, and else p. Only the records before p are looked through, and for mark 0, which is no reference, none.
-pub fn places_of(n: u8, table: &[u8], p: usize) -> [usize; 31]
-    ensures { λ r. ⌜ r ≡ placesOf n (now (table .entry)) p ⌝ }
+// Where the references of the record at p to the first n authors stand, one for each author: below `count`, if there is one that names one of
+// the first `count` records, and else `count` or how many there are. Only those are looked through, and for mark 0, which is no reference, none.
+// Whoever asks for many records of one round gives where the round begins: all searches then go the same way, which a processor foresees.
+pub fn places_of(n: u8, table: &[u8], p: usize, count: usize) -> [usize; 31]
+    ensures { λ r. ⌜ r ≡ placesOf n (now (table .entry)) p count ⌝ }
 {
     let b = record::part(table, p);
     let x = record::name_of(b);
     let round = round_before(x.round);
     let k = smaller(n as usize, 31);
-    let mut places = [p; 31];
+    let mut places = [count; 31];
     let mut i: usize = 0;
     while i < k {
         let mark = record::entry_of(b, i);
@@ -32,7 +33,7 @@ pub fn places_of(n: u8, table: &[u8], p: usize) -> [usize; 31]
                 author: i as u8,
                 mark,
             };
-            places[i] = find(table, p, y);
+            places[i] = find(table, count, y);
         }
         i += 1;
     }

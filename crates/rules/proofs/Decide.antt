@@ -118,7 +118,9 @@ pub record CertifiesIn (n : ℕ) (vs : List Vertex) (h : List Bool) (b : Vertex)
 module _ (n : ℕ) (vs : List Vertex) (h : List Bool) (b : Vertex) where
   pub certified-is : certifiedIn n vs h b ≡ true → CertifiesIn n vs h b
   unfolding certifiedIn
-  certified-is e = let w = any-witness _ (length h) e in record { who = w .0; within = w .1; in-history = and-left _ _ (w .2); certifies-it = and-right _ _ (w .2) }
+  certified-is e =
+      let w = any-witness _ (length h) e in
+      record { who = w .0; within = w .1; in-history = and-left _ _ (w .2); certifies-it = and-right _ _ (w .2) }
 
   pub is-certified : CertifiesIn n vs h b → certifiedIn n vs h b ≡ true
   unfolding certifiedIn

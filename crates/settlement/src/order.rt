@@ -31,7 +31,7 @@ fn mark_more(n: u8, table: &[u8], p: usize, low: usize, taken: &mut [u8]) -> usi
     requires { ⌜ p < recordsOf (now table) ⌝ }
     ensures { λ r. ⌜ MarkedMore references (verticesOf (now (table .entry))) p low (now (taken .entry)) r (now (taken .exit)) ⌝ }
 {
-    let places = places_of(n, table, p);
+    let places = places_of(n, table, p, p);
     let k = n as usize;
     let mut lowest = low;
     let mut i: usize = 0;

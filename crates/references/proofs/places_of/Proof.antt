@@ -1,4 +1,4 @@
--- `references::places_of` meets its contract. The loop's invariant: the first i places are those of the first i marks, the others p.
+-- `references::places_of` meets its contract. The loop's invariant: the first i places are those of the first i marks, the others `count`.
 -- The measure is the marks that are left.
 -- Assumes nothing.
 use Prim.Native.Nat.{ℕ, pred, _-_, _≤_, _<_, min}
@@ -17,15 +17,15 @@ use borrow.Author.Needs.{needs}
 use Rattle.references.proofs.places_of.Statement.{statement}
 use Rattle.references.proofs.places_of.Tie as tie
 
--- where what entry i of the record at p names stands
-abbrev place : List ℕ → (p round : ℕ) → ℕ → ℕ
-place t p round i = placeAmong t p (named round i (entry (decode first (recordAt first t p)) i))
+-- where what entry i of the record at p names stands among the first k
+abbrev place : List ℕ → (p k round : ℕ) → ℕ → ℕ
+place t p k round i = placeAmong t k (named round i (entry (decode first (recordAt first t p)) i))
 
 abbrev Inv-loop : tie.InvT-loop
-Inv-loop n table p b round k places₀ i₀ places i = (i ≤ k) × Filled (place table p round) p i places
+Inv-loop n table p count b round k places₀ i₀ places i = (i ≤ k) × Filled (place table p count round) count i places
 
 abbrev μ-loop : tie.MeasureT-loop
-μ-loop n table p b round k places₀ i₀ places i = k - i
+μ-loop n table p count b round k places₀ i₀ places i = k - i
 
 loop-holds : tie.Need-loop-holds Inv-loop μ-loop
 loop-holds c = (omega arith, filled-start _ _)
@@ -69,8 +69,8 @@ returns c =
     let round : r .round-before .result ≡ pred (decode first (recordAt first t (a .p)) .round) =
     r .round-before .ensures ∙ ap (λ (y : Name). pred (y .round)) name in
     rw (← round)
-    (filled-end (place t (a .p) (r .round-before .result)) _ (a .p) (l .loop .i) (l .loop .places)
-    (λ j h. ap (λ y. cond y (place t (a .p) (r .round-before .result) j) (a .p)) (first-few (a .n) (l .loop .i) j e h)) (l .loop .inv .1))
+    (filled-end (place t (a .p) (a .count) (r .round-before .result)) _ (a .count) (l .loop .i) (l .loop .places)
+    (λ j h. ap (λ y. cond y (place t (a .p) (a .count) (r .round-before .result) j) (a .count)) (first-few (a .n) (l .loop .i) j e h)) (l .loop .inv .1))
 
 pub places-of-spec : {M : Type 1} → statement M
 places-of-spec =

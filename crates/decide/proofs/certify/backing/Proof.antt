@@ -20,10 +20,10 @@ abbrev backed : List ℕ → (w leader : ℕ) → ℕ → ℕ
 backed t w leader i = entry (vertexOf (vertices first t) (entryName (at (vertices first t) w) i)) leader
 
 abbrev Inv-loop : tie.InvT-loop
-Inv-loop n table w leader places k marks₀ i₀ marks i = (i ≤ k) × Filled (backed table w leader) 0 i marks
+Inv-loop n table w count leader places k marks₀ i₀ marks i = (i ≤ k) × Filled (backed table w leader) 0 i marks
 
 abbrev μ-loop : tie.MeasureT-loop
-μ-loop n table w leader places k marks₀ i₀ marks i = k - i
+μ-loop n table w count leader places k marks₀ i₀ marks i = k - i
 
 loop-holds : tie.Need-loop-holds Inv-loop μ-loop
 loop-holds c = let a = c .before .before .args in (omega arith, filled-start (backed (a .table .now) (a .w) (a .leader)) 0)
@@ -44,8 +44,8 @@ loop-again c =
     let i = l .loop .i in
     let t = a .table .now in
     let low : i < 31 = omega (arith, A .few) in
-    let q : getD (P .places-of .result) i 0 ≡ getD (placesOf (a .n) t (a .w)) i 0 = ap (λ x. getD x i 0) (P .places-of .ensures) in
-    let mark = backed-at t A (a .w) (a .leader) (s .pre .1) i _ (c .back .result) low q (c .back .ensures) in
+    let q : getD (P .places-of .result) i 0 ≡ getD (placesOf (a .n) t (a .w) (a .count)) i 0 = ap (λ x. getD x i 0) (P .places-of .ensures) in
+    let mark = backed-at t A (a .w) (a .count) (a .leader) (s .pre .1 .0) (s .pre .1 .1) i _ (c .back .result) low q (c .back .ensures) in
     (omega arith, filled-next (backed t (a .w) (a .leader)) 0 i (l .loop .marks) (c .back .result) low mark (l .loop .inv .1))
 
 returns : tie.Need-returns Inv-loop μ-loop
@@ -56,7 +56,7 @@ returns c =
     let a = s .args in
     let e : l .loop .i ≡ a .n = omega arith in
     filled-end (backed (a .table .now) (a .w) (a .leader)) _ 0 (l .loop .i) (l .loop .marks)
-    (λ j h. rw e (backs-few (s .pre .0 .accepted) (a .w) (a .leader) (s .pre .1) j)) (l .loop .inv .1)
+    (λ j h. rw e (backs-few (s .pre .0 .accepted) (a .w) (a .leader) (s .pre .1 .0) j)) (l .loop .inv .1)
 
 pub backing-spec : {M : Type 1} → statement M
 backing-spec =

@@ -8,8 +8,9 @@ use Rattle.rules.specs.Record.{first, vertices}
 use Rattle.rules.specs.Support.{references}
 use Rattle.rules.specs.History.{history}
 use Rattle.rules.proofs.Records.{vertices-length}
+use Rattle.references.specs.Places.{HoldsAll}
 use Rattle.decide.specs.Range.{startOf}
-use Rattle.decide.proofs.Ranges.{start-bound, start-mono}
+use Rattle.decide.proofs.Ranges.{start-bound, start-mono, round-holds}
 use Rattle.decide.proofs.Sweeps.{bit-yes, bit-no}
 use Rattle.decide.proofs.Members.{toldBelow, two-up-in, told-start, told-yes, told-no, told-end, told-byte}
 use native.Mathlib.Omega.{arith}
@@ -19,13 +20,13 @@ use Rattle.decide.proofs.history.certified_in.Statement.{statement}
 use Rattle.decide.proofs.history.certified_in.Tie as tie
 
 abbrev Inv-loop : tie.InvT-loop
-Inv-loop n table round leader a done work end w₀ best₀ w best =
+Inv-loop n table round leader a done work end from w₀ best₀ w best =
     (startOf (vertices first table) (round + 2) 0 ≤ w)
     × (w ≤ end)
     × (best ≡ toldBelow n (vertices first table) (history references (vertices first table) a) round leader w)
 
 abbrev μ-loop : tie.MeasureT-loop
-μ-loop n table round leader a done work end w₀ best₀ w best = end - w
+μ-loop n table round leader a done work end from w₀ best₀ w best = end - w
 
 loop-holds : tie.Need-loop-holds Inv-loop μ-loop
 loop-holds c =
@@ -59,7 +60,9 @@ certified-at-requires c κs =
     let here =
     two-up-in (s .pre .0 .sound .accepted) (s .args .round) (s .args .leader) (s .args .a) (S .within) (l .loop .w) (l .loop .inv .0)
     (omega (arith, b .begin .ensures)) in
-    (s .pre .0 .sound, (here .within, here .round))
+    let held : HoldsAll (vertices first (s .args .table .now)) (l .loop .w) (l .before .before .begin2 .result) =
+    rw (l .before .before .begin2 .ensures) (round-holds (s .pre .0 .sound .accepted) (s .args .round + 2) (l .loop .w) here) in
+    (s .pre .0 .sound, (here .within, (held, here .round)))
 
 loop-again : tie.Need-loop-again Inv-loop μ-loop
 loop-again c =

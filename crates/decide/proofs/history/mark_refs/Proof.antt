@@ -6,7 +6,7 @@ use mathlib.Core.Logic.{⊎-elim}
 use lib.ListN.{length, getD, length-set}
 use Rattle.rules.specs.Record.{first, vertices}
 use Rattle.references.specs.Places.{placesOf}
-use Rattle.references.proofs.Found.{reference-at, no-reference}
+use Rattle.references.proofs.Found.{reference-at, no-reference, holds-before}
 use Rattle.decide.proofs.Sweeps.{MarkedTo, marked-none, marked-all, marked-skip, marked-one}
 use native.Mathlib.Omega.{arith}
 use borrow.Author.Needs.{needs}
@@ -42,7 +42,8 @@ same-length c = c .before .loop .inv .1
 loop-holds : tie.Need-loop-holds Inv-loop μ-loop
 loop-holds c =
     let s = c .before .before .before in
-    (omega arith, refl, marked-none (vertices first (s .args .table .now)) (s .args .p) (s .args .work .now) (λ q. omega (arith, c .before .slice-known .given q)))
+    let bytes = c .before .slice-known .given in
+    (omega arith, refl, marked-none (vertices first (s .args .table .now)) (s .args .p) (s .args .work .now) (λ q. omega (arith, bytes q)))
 
 loop-again : tie.Need-loop-again Inv-loop μ-loop
 loop-again c =
@@ -54,14 +55,17 @@ loop-again c =
     let m = l .loop .work in
     let i = l .loop .i in
     let A = s .pre .0 .sound .accepted in
-    let q : getD (P .places-of .result) i 0 ≡ getD (placesOf (s .args .n) t p) i 0 = ap (λ x. getD x i 0) (P .places-of .ensures) in
+    let q : getD (P .places-of .result) i 0 ≡ getD (placesOf (s .args .n) t p p) i 0 = ap (λ x. getD x i 0) (P .places-of .ensures) in
     let few : i < 31 = omega (arith, A .few) in
     ⊎-elim
     (λ w.
-    let found = reference-at t A p (s .pre .1) i few (omega (arith, q, w .0 .taken)) in
-    (omega arith, rw (w .3) (simp length-set (l .loop .inv .1)), rw (w .3) (marked-one A p (s .pre .1) (s .args .work .now) m i _ (w .2 .result) (found .given) (q ∙ found .place) (omega arith) (w .2 .ensures) (l .loop .inv .2))))
+    let found = reference-at t A p p (s .pre .1) (holds-before A p (s .pre .1)) i few (omega (arith, q, w .0 .taken)) in
+    let next =
+    marked-one A p (s .pre .1) (s .args .work .now) m i _ (w .2 .result) (found .given) (q ∙ found .place) (omega arith) (w .2 .ensures)
+    (l .loop .inv .2) in
+    (omega arith, rw (w .3) (simp length-set (l .loop .inv .1)), rw (w .3) next))
     (λ w.
-    let empty = no-reference t A p (s .pre .1) i few (omega (arith, q, w .0 .left)) in
+    let empty = no-reference t A p p (s .pre .1) (holds-before A p (s .pre .1)) i few (omega (arith, q, w .0 .left)) in
     (omega arith, rw (w .1) (l .loop .inv .1), rw (w .1) (marked-skip A p (s .pre .1) (s .args .work .now) m i empty (l .loop .inv .2))))
     (c .if1 .came)
 

@@ -7,10 +7,11 @@ use mathlib.Core.Logic.{inl}
 use mathlib.Core.List.{List}
 use lib.ListN.{length}
 use Rattle.rules.specs.Record.{first, vertices}
+use Rattle.references.specs.Places.{HoldsAll}
 use Rattle.decide.specs.Range.{startOf}
 use Rattle.decide.specs.Certify.{certifiedAt}
 use Rattle.decide.specs.Work.{windowTag}
-use Rattle.decide.proofs.Ranges.{start-bound, start-mono, InRound, in-round}
+use Rattle.decide.proofs.Ranges.{start-bound, start-mono, InRound, in-round, round-holds}
 use Rattle.decide.proofs.Tagging.{TaggedTo, tagged-start, tagged-next, tagged-end, window-small}
 use native.Mathlib.Omega.{arith}
 use borrow.Author.Needs.{needs}
@@ -22,10 +23,10 @@ abbrev tag-of : (n : ℕ) → List ℕ → (round leader b e : ℕ) → ℕ → 
 tag-of n t round leader b e w = windowTag (certifiedAt n (vertices first t) round leader w) b e
 
 abbrev Inv-loop : tie.InvT-loop
-Inv-loop n table round leader b e work₀ end w₀ work w = (w₀ ≤ w) × (w ≤ end) × TaggedTo w₀ (tag-of n table round leader b e) work₀ w work
+Inv-loop n table round leader b e work₀ end from w₀ work w = (from ≤ w) × (w ≤ end) × TaggedTo from (tag-of n table round leader b e) work₀ w work
 
 abbrev μ-loop : tie.MeasureT-loop
-μ-loop n table round leader b e work₀ end w₀ work w = end - w
+μ-loop n table round leader b e work₀ end from w₀ work w = end - w
 
 loop-holds : tie.Need-loop-holds Inv-loop μ-loop
 loop-holds c =
@@ -48,7 +49,9 @@ certified-at-requires c κs =
     (let e : a .round + 2 + 1 ≡ a .round + 3 = omega arith in rw e (omega (arith, b .begin .ensures))) in
     let i : InRound (vertices first t) (a .round + 2) (l .loop .w) =
     in-round (s .pre .0 .sound .accepted) (a .round + 2) (l .loop .w) (omega (arith, l .before .begin2 .ensures)) up in
-    (s .pre .0 .sound, (i .within, i .round))
+    let held : HoldsAll (vertices first t) (l .loop .w) (l .before .begin2 .result) =
+    rw (l .before .begin2 .ensures) (round-holds (s .pre .0 .sound .accepted) (a .round + 2) (l .loop .w) i) in
+    (s .pre .0 .sound, (i .within, (held, i .round)))
 
 slice-read-with-tag : tie.Need-slice-read-with-tag Inv-loop μ-loop
 slice-read-with-tag c =

@@ -7,7 +7,7 @@ use mathlib.Core.Logic.{⊎-elim}
 use lib.ListN.{getD}
 use Rattle.rules.specs.Record.{first, vertices}
 use Rattle.references.specs.Places.{placesOf}
-use Rattle.references.proofs.Found.{reference-at, no-reference}
+use Rattle.references.proofs.Found.{reference-at, no-reference, holds-before}
 use Rattle.settlement.proofs.Marking.{More, more-start, more-same, more-next, more-end}
 use native.Mathlib.Omega.{arith}
 use borrow.Author.Needs.{needs}
@@ -44,17 +44,17 @@ loop-again c =
     let i = l .loop .i in
     let A = s .pre .0 .sound .accepted in
     let M = l .loop .inv .1 in
-    let q : getD (P .places-of .result) i 0 ≡ getD (placesOf (s .args .n) t p) i 0 = ap (λ x. getD x i 0) (P .places-of .ensures) in
+    let q : getD (P .places-of .result) i 0 ≡ getD (placesOf (s .args .n) t p p) i 0 = ap (λ x. getD x i 0) (P .places-of .ensures) in
     let few : i < 31 = omega (arith, A .few) in
     ⊎-elim
     (λ x.
-    let found = reference-at t A p (s .pre .1) i few (omega (arith, q, x .0 .taken)) in
+    let found = reference-at t A p p (s .pre .1) (holds-before A p (s .pre .1)) i few (omega (arith, q, x .0 .taken)) in
     let next =
     more-next A p (s .pre .1) (s .args .taken .now) (s .args .low) i (l .loop .lowest) (l .loop .taken) M _ (x .2 .result) (x .2 .last .1 .1 .0)
     (found .given) (q ∙ found .place) (omega (arith, s .pre .1)) (x .2 .ensures) in
     (omega arith, rw (x .5, x .6) next))
     (λ x.
-    let empty = no-reference t A p (s .pre .1) i few (omega (arith, q, x .0 .left)) in
+    let empty = no-reference t A p p (s .pre .1) (holds-before A p (s .pre .1)) i few (omega (arith, q, x .0 .left)) in
     (omega arith, rw (x .1, x .2) (more-same A p (s .pre .1) (s .args .taken .now) (s .args .low) i (l .loop .lowest) (l .loop .taken) M empty)))
     (c .if1 .came)
 

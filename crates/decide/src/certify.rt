@@ -32,12 +32,12 @@ fn backing(n: u8, table: &[u8], w: usize, count: usize, leader: u8) -> [u32; 31]
     requires { ⌜ HoldsAll (verticesOf (now table)) w count ⌝ }
     ensures { λ r. ⌜ r ≡ backs (verticesOf (now (table .entry))) w leader ⌝ }
 {
-    let places = places_of(n, table, w, count);
+    let places = places_of(n, table, w, count as u32);
     let k = n as usize;
     let mut marks = [0u32; 31];
     let mut i: usize = 0;
     while i < k {
-        marks[i] = back(table, places[i], count, leader);
+        marks[i] = back(table, places[i] as usize, count, leader);
         i += 1;
     }
     marks

@@ -66,11 +66,11 @@ fn mark_refs(n: u8, table: &[u8], p: usize, work: &mut [u8])
     ensures { λ r. ⌜ length (now (work .exit)) ≡ length (now (work .entry)) ⌝ }
     ensures { λ r. ⌜ Handed references (verticesOf (now (table .entry))) p (now (work .entry)) (now (work .exit)) ⌝ }
 {
-    let places = places_of(n, table, p, p);
+    let places = places_of(n, table, p, p as u32);
     let k = n as usize;
     let mut i: usize = 0;
     while i < k {
-        let q = places[i];
+        let q = places[i] as usize;
         if q < p {
             work[q] = with_history(work[q]);
         }

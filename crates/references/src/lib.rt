@@ -16,7 +16,7 @@ fn round_before(round: u32) -> u32
 // Where the references of the record at p to the first n authors stand, one for each author: below `count`, if there is one that names one of
 // the first `count` records, and else `count` or how many there are. Only those are looked through, and for mark 0, which is no reference, none.
 // Whoever asks for many records of one round gives where the round begins: all searches then go the same way, which a processor foresees.
-pub fn places_of(n: u8, table: &[u8], p: usize, count: usize) -> [usize; 31]
+pub fn places_of(n: u8, table: &[u8], p: usize, count: u32) -> [u32; 31]
     ensures { λ r. ⌜ r ≡ placesOf n (now (table .entry)) p count ⌝ }
 {
     let b = record::part(table, p);
@@ -33,7 +33,7 @@ pub fn places_of(n: u8, table: &[u8], p: usize, count: usize) -> [usize; 31]
                 author: i as u8,
                 mark,
             };
-            places[i] = find(table, count, y);
+            places[i] = find(table, count as usize, y) as u32;
         }
         i += 1;
     }

@@ -5,11 +5,12 @@ use mathlib.Core.Path.{_≡_, refl, _∙_, subst}
 use mathlib.Core.Bool.{true, false, not}
 use mathlib.Core.List.{List}
 use native.Mathlib.Omega.{arith}
-use native.Mathlib.Nat.{le-refl}
+use native.Mathlib.Nat.{le-refl, le-of-lt}
 use lib.Dec.{ltb}
 use lib.ListN.{length}
 use borrow.Author.Tests.{ltb-true, ltb-false}
-use Rattle.folds.proofs.Tests.{by-test, not-both, failed, not-true, not-false}
+use Rattle.folds.specs.Folds.{_and_}
+use Rattle.folds.proofs.Tests.{by-test, not-both, failed, not-true, not-false, and-left}
 use Rattle.folds.proofs.Laws.{First, first-unique, first-is}
 use Rattle.rules.specs.declared.Name.{Name}
 use Rattle.rules.specs.Record.{first, records, vertices, at, nameOf, sameName, below, find}
@@ -88,3 +89,11 @@ rise-all n t A i j l h =
 
 pub find-below : (n : ℕ) (t : List ℕ) (x : Name) → Accepted n (vertices first t) → findBelow t (records first t) x ≡ find (vertices first t) x
 find-below n t x A = find-rising t x (rise-all n t A)
+
+-- where it is not found, the answer is the bound
+pub find-most : (t : List ℕ) (k : ℕ) (x : Name) → findBelow t k x ≤ k
+unfolding findBelow
+find-most t k x = by-test (ltb m k and sameName (nameAt t m) x) (λ e. rw e (le-of-lt (ltb-true m k (and-left _ _ e)))) (λ e. rw e (le-refl k))
+  where
+    m : ℕ
+    m = placeOf t k x

@@ -31,12 +31,12 @@ fn mark_more(n: u8, table: &[u8], p: usize, low: usize, taken: &mut [u8]) -> usi
     requires { ⌜ p < recordsOf (now table) ⌝ }
     ensures { λ r. ⌜ MarkedMore references (verticesOf (now (table .entry))) p low (now (taken .entry)) r (now (taken .exit)) ⌝ }
 {
-    let places = places_of(n, table, p, p);
+    let places = places_of(n, table, p, p as u32);
     let k = n as usize;
     let mut lowest = low;
     let mut i: usize = 0;
     while i < k {
-        let q = places[i];
+        let q = places[i] as usize;
         if q < p {
             lowest = mark_one(q, lowest, taken);
         }

@@ -10,7 +10,8 @@ use native.Mathlib.Omega.{arith}
 use lib.Dec.{ltb}
 use borrow.Author.Tests.{eq-eqb, ne-eqb}
 use Rattle.rules.specs.declared.Name.{Name}
-use Rattle.rules.specs.Record.{first, recordAt, decode, entry, nameOf, named}
+use Rattle.rules.specs.Record.{first, records, recordAt, decode, entry, nameOf, named}
+use Rattle.search.proofs.Finds.{find-most}
 use Rattle.references.specs.Places.{placeAmong, placesAmong, placesOf}
 use Rattle.references.proofs.Filled.{Filled, filled-start, filled-next, filled-keep, filled-end, first-few}
 use borrow.Author.Needs.{needs}
@@ -29,6 +30,13 @@ abbrev μ-loop : tie.MeasureT-loop
 
 loop-holds : tie.Need-loop-holds Inv-loop μ-loop
 loop-holds c = (omega arith, filled-start _ _)
+
+cast-places : tie.Need-cast-places Inv-loop μ-loop
+cast-places c =
+    let a = c .before .before .before .before .before .before .before .before .before .before .args in
+    let most : c .find .result ≤ min (a .count) (records first (a .table .now)) = rw (c .find .ensures) (find-most _ _ _) in
+    let low : c .find .result ≤ a .count = omega (arith, most) in
+    search needs
 
 array-write-places : tie.Need-array-write-places Inv-loop μ-loop
 array-write-places c = let k = c .before .before .before .before .before in omega (arith, k .smaller .ensures)
@@ -76,5 +84,5 @@ pub places-of-spec : {M : Type 1} → statement M
 places-of-spec =
     tie.close
     (tie.spec Inv-loop μ-loop (λ c κs. search needs) (λ c κs. search needs) (λ c κs. search needs) (λ c κs. search needs) loop-holds
-    (λ c κs. search needs) (λ c. search needs) (λ c κs. search needs) (λ c. search needs) array-write-places (λ c. search needs) (λ c. search needs)
+    (λ c κs. search needs) (λ c. search needs) (λ c κs. search needs) cast-places (λ c. search needs) array-write-places (λ c. search needs) (λ c. search needs)
     loop-again returns)

@@ -25,6 +25,12 @@ Inv-loop n table w count leader places k marks₀ i₀ marks i = (i ≤ k) × Fi
 abbrev μ-loop : tie.MeasureT-loop
 μ-loop n table w count leader places k marks₀ i₀ marks i = k - i
 
+cast-places-of : tie.Need-cast-places-of Inv-loop μ-loop
+cast-places-of c =
+    let s = c .before in
+    let few : s .args .count < 4097 = omega (arith, s .pre .1 .1 .within, s .pre .0 .few) in
+    search needs
+
 loop-holds : tie.Need-loop-holds Inv-loop μ-loop
 loop-holds c = let a = c .before .before .args in (omega arith, filled-start (backed (a .table .now) (a .w) (a .leader)) 0)
 
@@ -61,5 +67,5 @@ returns c =
 pub backing-spec : {M : Type 1} → statement M
 backing-spec =
     tie.close
-    (tie.spec Inv-loop μ-loop (λ c κs. search needs) loop-holds (λ c. search needs) array-read-back (λ c κs. search needs) (λ c. search needs)
+    (tie.spec Inv-loop μ-loop cast-places-of (λ c κs. search needs) loop-holds (λ c. search needs) array-read-back (λ c. search needs) (λ c κs. search needs) (λ c. search needs)
     array-write-marks (λ c. search needs) (λ c. search needs) loop-again returns)

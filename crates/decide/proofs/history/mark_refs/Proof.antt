@@ -39,6 +39,12 @@ slice-write-work c =
 same-length : tie.Need-same-length Inv-loop μ-loop
 same-length c = c .before .loop .inv .1
 
+cast-places-of : tie.Need-cast-places-of Inv-loop μ-loop
+cast-places-of c =
+    let s = c .before .before in
+    let few : s .args .p < 4097 = omega (arith, s .pre .1, s .pre .0 .sound .few) in
+    search needs
+
 loop-holds : tie.Need-loop-holds Inv-loop μ-loop
 loop-holds c =
     let s = c .before .before .before in
@@ -79,5 +85,5 @@ returns c =
 pub mark-refs-spec : {M : Type 1} → statement M
 mark-refs-spec =
     tie.close
-    (tie.spec Inv-loop μ-loop (λ c κs. search needs) loop-holds (λ c. search needs) array-read-q slice-read-with-history (λ c κs. search needs)
+    (tie.spec Inv-loop μ-loop cast-places-of (λ c κs. search needs) loop-holds (λ c. search needs) array-read-q (λ c. search needs) slice-read-with-history (λ c κs. search needs)
     slice-write-work (λ c. search needs) (λ c. search needs) loop-again same-length returns)

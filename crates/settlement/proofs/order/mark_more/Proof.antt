@@ -20,6 +20,12 @@ Inv-loop n table p low taken₀ places k lowest₀ i₀ taken lowest i = (i ≤ 
 abbrev μ-loop : tie.MeasureT-loop
 μ-loop n table p low taken₀ places k lowest₀ i₀ taken lowest i = k - i
 
+cast-places-of : tie.Need-cast-places-of Inv-loop μ-loop
+cast-places-of c =
+    let s = c .before .before in
+    let few : s .args .p < 4097 = omega (arith, s .pre .1, s .pre .0 .sound .few) in
+    search needs
+
 loop-holds : tie.Need-loop-holds Inv-loop μ-loop
 loop-holds c =
     let s = c .before .before .before in
@@ -68,5 +74,5 @@ returns c =
 pub mark-more-spec : {M : Type 1} → statement M
 mark-more-spec =
     tie.close
-    (tie.spec Inv-loop μ-loop (λ c κs. search needs) loop-holds (λ c. search needs) array-read-q mark-one-requires (λ c. search needs)
+    (tie.spec Inv-loop μ-loop cast-places-of (λ c κs. search needs) loop-holds (λ c. search needs) array-read-q (λ c. search needs) mark-one-requires (λ c. search needs)
     (λ c. search needs) loop-again (λ c. search needs) returns)

@@ -14,7 +14,7 @@ use borrow.Rule.Slice.PartMut.{putMid}
 use Rattle.folds.proofs.Tests.{by-test}
 use Rattle.rules.specs.Settlement.{writtenOver}
 use Rattle.lines.specs.Fills.{Fills}
-use Rattle.record.proofs.Laws.{part-rest}
+use Rattle.numbers.proofs.Numbers.{part-rest}
 use Rattle.report.specs.Output.{joined}
 use Rattle.page.specs.Page.{fitted, Page}
 

@@ -8,12 +8,6 @@ use Rattle.record.proofs.records_of.Kinds as records-of-kinds
 use Rattle.record.proofs.records_of.Reads as records-of
 use Rattle.record.proofs.part.Kinds as part-kinds
 use Rattle.record.proofs.part.Reads as part
-use Rattle.record.proofs.byte_at.Kinds as byte-at-kinds
-use Rattle.record.proofs.byte_at.Reads as byte-at
-use Rattle.record.proofs.u16_at.Kinds as u16-at-kinds
-use Rattle.record.proofs.u16_at.Reads as u16-at
-use Rattle.record.proofs.u32_at.Kinds as u32-at-kinds
-use Rattle.record.proofs.u32_at.Reads as u32-at
 use Rattle.record.proofs.sum_of.Kinds as sum-of-kinds
 use Rattle.record.proofs.sum_of.Reads as sum-of
 use Rattle.record.proofs.refs_of.Kinds as refs-of-kinds
@@ -34,15 +28,6 @@ records-of-unique κs a x y e f p q = p ∙ sym q
 
 pub part-unique : Only 1 part-kinds.ps part-kinds.r (λ κs x e y f. SamePart x y) part.Post
 part-unique κs a x y e f p q = record { block = p .block ∙ sym (q .block); place = p .place ∙ sym (q .place); bytes = p .bytes ∙ sym (q .bytes) }
-
-pub byte-at-unique : Only 1 byte-at-kinds.ps byte-at-kinds.r (λ κs x e y f. x ≡ y) byte-at.Post
-byte-at-unique κs a x y e f p q = p ∙ sym q
-
-pub u16-at-unique : Only 1 u16-at-kinds.ps u16-at-kinds.r (λ κs x e y f. x ≡ y) u16-at.Post
-u16-at-unique κs a x y e f p q = p ∙ sym q
-
-pub u32-at-unique : Only 1 u32-at-kinds.ps u32-at-kinds.r (λ κs x e y f. x ≡ y) u32-at.Post
-u32-at-unique κs a x y e f p q = p ∙ sym q
 
 pub sum-of-unique : Only 1 sum-of-kinds.ps sum-of-kinds.r (λ κs x e y f. x ≡ y) sum-of.Post
 sum-of-unique κs a x y e f p q = p ∙ sym q

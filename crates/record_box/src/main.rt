@@ -52,7 +52,7 @@ fn answer(input: &[u8], cells: &mut [u32], order: &mut [u32], taken: &mut [u8]) 
             outcome: Outcome::Refused(Refusal::Input),
         };
     }
-    let n = record::byte_at(input, 0);
+    let n = numbers::byte_at(input, 0);
     settlement::settle(n, table_of(input), cells, order, taken)
 }
 

@@ -115,11 +115,11 @@ fn say_part(part: &[u8]) {
 
 fn say_lookup(input: &[u8]) {
     let x = Name {
-        round: record::u32_at(input, 1),
-        author: record::byte_at(input, 5),
-        mark: record::u32_at(input, 6),
+        round: numbers::u32_at(input, 1),
+        author: numbers::byte_at(input, 5),
+        mark: numbers::u32_at(input, 6),
     };
-    let n = record::byte_at(input, 10);
+    let n = numbers::byte_at(input, 10);
     let table = rest(input, 11);
     say_found(n, table, x);
     say_part(lookup::lookup(n, table, x.round, x.author, x.mark));
@@ -173,7 +173,7 @@ fn say_taken(b: &[u8]) {
     };
     let mut i: usize = 0;
     while i < b.len() {
-        r = said_up_to(r, record::byte_at(b, i) as u32);
+        r = said_up_to(r, numbers::byte_at(b, i) as u32);
         i += 1;
     }
     say_run(r);
@@ -242,16 +242,16 @@ fn lent_at(input: &[u8], i: usize) -> Lent
     requires { ⌜ i ≤ 2000 ⌝ }
 {
     Lent {
-        cells: record::u16_at(input, i) as usize,
-        order: record::u16_at(input, i + 2) as usize,
-        taken: record::u16_at(input, i + 4) as usize,
+        cells: numbers::u16_at(input, i) as usize,
+        order: numbers::u16_at(input, i + 2) as usize,
+        taken: numbers::u16_at(input, i + 4) as usize,
     }
 }
 
 // The check, then the settlement with each of the sets of lengths.
 fn say_settlements(input: &[u8]) {
-    let count = record::byte_at(input, 1) as usize;
-    let n = record::byte_at(input, 2 + 6 * count);
+    let count = numbers::byte_at(input, 1) as usize;
+    let n = numbers::byte_at(input, 2 + 6 * count);
     let table = rest(input, 3 + 6 * count);
     say_check(n, table);
     let mut i: usize = 0;
@@ -262,7 +262,7 @@ fn say_settlements(input: &[u8]) {
 }
 
 fn say_answer(input: &[u8]) {
-    let question = record::byte_at(input, 0);
+    let question = numbers::byte_at(input, 0);
     if question == LOOKUP {
         say_lookup(input);
         return;
@@ -271,7 +271,7 @@ fn say_answer(input: &[u8]) {
         say_settlements(input);
         return;
     }
-    let n = record::byte_at(input, 1);
+    let n = numbers::byte_at(input, 1);
     let table = rest(input, 2);
     say_check(n, table);
     if question == TWICE {

@@ -7,7 +7,7 @@ use mathlib.Core.List.{List}
 use Rattle.folds.specs.Folds.{sumTo}
 use Rattle.folds.proofs.Laws.{sum-start, sum-next}
 use Rattle.rules.specs.Record.{number, sumOf}
-use Rattle.record.proofs.Laws.{number-two}
+use Rattle.numbers.proofs.Numbers.{number-two}
 use native.Mathlib.Omega.{arith}
 use borrow.Author.Needs.{needs}
 use Rattle.record.proofs.sum_words.Statement.{statement}

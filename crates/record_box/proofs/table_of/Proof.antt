@@ -3,7 +3,7 @@
 use mathlib.Core.Path.{_∙_}
 use lib.ListN.{length}
 use native.Mathlib.Omega.{arith}
-use Rattle.record.proofs.Laws.{part-rest, none-rest}
+use Rattle.numbers.proofs.Numbers.{part-rest, none-rest}
 use borrow.Author.Needs.{needs}
 use Rattle.record_box.proofs.table_of.Statement.{statement}
 use Rattle.record_box.proofs.table_of.Tie as tie

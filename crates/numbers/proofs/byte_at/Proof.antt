@@ -1,10 +1,10 @@
--- `record::byte_at` meets its contract: past the end it answers 0, which is what a list holds there.
+-- `numbers::byte_at` meets its contract: past the end it answers 0, which is what a list holds there.
 -- Assumes nothing.
 use mathlib.Core.Path.{refl, sym}
-use Rattle.record.proofs.Laws.{getD-past}
+use Rattle.numbers.proofs.Numbers.{getD-past}
 use borrow.Author.Needs.{needs}
-use Rattle.record.proofs.byte_at.Statement.{statement}
-use Rattle.record.proofs.byte_at.Tie as tie
+use Rattle.numbers.proofs.byte_at.Statement.{statement}
+use Rattle.numbers.proofs.byte_at.Tie as tie
 
 returns : tie.Need-returns
 returns c = sym (getD-past (c .before .args .b .now) (c .before .args .i) (c .if1 .taken))

@@ -1,13 +1,13 @@
--- `record::u16_at` meets its contract. Two bytes within b are joined as they stand;
+-- `numbers::u16_at` meets its contract. Two bytes within b are joined as they stand;
 -- near the end and past it the same bytes are read from the rest of b.
 -- Assumes nothing.
 use Prim.Native.Nat.{_+_, _*_}
 use lib.ListN.{getD}
 use mathlib.Core.Path.{_≡_, sym, _∙_}
-use Rattle.record.proofs.Laws.{number-two, two-rest}
+use Rattle.numbers.proofs.Numbers.{number-two, two-rest}
 use borrow.Author.Needs.{needs}
-use Rattle.record.proofs.u16_at.Statement.{statement}
-use Rattle.record.proofs.u16_at.Tie as tie
+use Rattle.numbers.proofs.u16_at.Statement.{statement}
+use Rattle.numbers.proofs.u16_at.Tie as tie
 
 returns : tie.Need-returns
 returns c =

@@ -1,11 +1,11 @@
--- `record::u32_at` meets its contract. Four bytes within b are joined as they stand;
+-- `numbers::u32_at` meets its contract. Four bytes within b are joined as they stand;
 -- near the end and past it the same bytes are read from the rest of b.
 -- Assumes nothing.
 use mathlib.Core.Path.{sym, _∙_}
-use Rattle.record.proofs.Laws.{number-four, four-rest}
+use Rattle.numbers.proofs.Numbers.{number-four, four-rest}
 use borrow.Author.Needs.{needs}
-use Rattle.record.proofs.u32_at.Statement.{statement}
-use Rattle.record.proofs.u32_at.Tie as tie
+use Rattle.numbers.proofs.u32_at.Statement.{statement}
+use Rattle.numbers.proofs.u32_at.Tie as tie
 
 returns : tie.Need-returns
 returns c =

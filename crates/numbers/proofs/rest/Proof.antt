@@ -1,11 +1,11 @@
--- `record::rest` meets its contract: the part from i on is all that follows, and from the end on nothing does.
+-- `numbers::rest` meets its contract: the part from i on is all that follows, and from the end on nothing does.
 -- Assumes nothing.
 use mathlib.Core.Path.{_∙_}
 use lib.ListN.{length}
-use Rattle.record.proofs.Laws.{part-rest, none-rest}
+use Rattle.numbers.proofs.Numbers.{part-rest, none-rest}
 use borrow.Author.Needs.{needs}
-use Rattle.record.proofs.rest.Statement.{statement}
-use Rattle.record.proofs.rest.Tie as tie
+use Rattle.numbers.proofs.rest.Statement.{statement}
+use Rattle.numbers.proofs.rest.Tie as tie
 
 returns : tie.Need-returns
 returns c = part-rest (c .before .before .args .b .now) (c .before .before .args .i)

@@ -1,9 +1,9 @@
--- `record::join_two` meets its contract: the lowest byte first.
+-- `numbers::join_two` meets its contract: the lowest byte first.
 -- Assumes nothing.
 use native.Mathlib.Omega.{arith}
 use borrow.Author.Needs.{needs}
-use Rattle.record.proofs.join_two.Statement.{statement}
-use Rattle.record.proofs.join_two.Tie as tie
+use Rattle.numbers.proofs.join_two.Statement.{statement}
+use Rattle.numbers.proofs.join_two.Tie as tie
 
 returns : tie.Need-returns
 returns c = omega arith

@@ -1,5 +1,4 @@
 pub mod Above
-pub mod Entries
 pub mod Earlier
 pub mod Records
 pub mod Unique

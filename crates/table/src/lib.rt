@@ -3,13 +3,11 @@ ghost use mathlib.Core.Path.{_≡_};
 ghost use mathlib.Core.Bool.{true, not};
 ghost use Prim.Native.Nat.{_<_, _≤_};
 ghost use lib.Dec.{eqb};
-ghost use lib.ListN.{getD};
-ghost use Rattle.folds.specs.Folds.{countTo};
 ghost use Rattle.rules.specs.Authors.{isCount};
 ghost use Rattle.rules.specs.Record.{first, sumOf, records, vertices};
 ghost use Rattle.rules.specs.declared.Checked.the-variants as Checked;
 ghost use Rattle.rules.specs.Refusals.{refusal, checkTells, _when_, _then_, eachTo};
-ghost use Rattle.rules.specs.Check.{fieldsWrong, notAbove, entriesWrong, notEarlier, roundAbove, checkRecord, checkTable};
+ghost use Rattle.rules.specs.Check.{notAbove, notEarlier, checkRecord, checkTable};
 ghost use Rattle.rules.specs.Check.{check as checked};
 ghost use Rattle.table.specs.Ready.{Reached, Ready};
 ghost use Rattle.table.specs.Rows.{fourToSeven};
@@ -17,6 +15,9 @@ use record::RECORD;
 use record::name_at;
 use record::part;
 use record::records_of;
+use rows::entries_wrong;
+use rows::fields_wrong;
+use rows::round_above;
 use rules::Checked;
 use rules::Name;
 use rules::Refusal;
@@ -26,11 +27,7 @@ use search::lowered;
 use search::raised;
 use search::same;
 
-const ENTRIES: usize = 31;
-
 const MOST: usize = 4096;
-
-const LAST_ROUND: u32 = 1400;
 
 // The refusal is the answer when its test holds.
 fn row(why: Refusal, wrong: bool) -> Checked
@@ -83,24 +80,6 @@ fn sum_differs(b: &[u8], sum: u16) -> bool
     record::sum_of(b) != sum
 }
 
-fn fields_wrong(n: u8, v: Vertex) -> bool
-    ensures { λ r. ⌜ r ≡ fieldsWrong n v ⌝ }
-{
-    if v.padding != 0 {
-        return true;
-    }
-    if v.round == 0 {
-        return true;
-    }
-    if v.mark == 0 {
-        return true;
-    }
-    if v.author < n {
-        return false;
-    }
-    true
-}
-
 // Position above 0, and the name is not above the one before it.
 fn not_above(table: &[u8], p: usize) -> bool
     ensures { λ r. ⌜ r ≡ notAbove (vertices first (now (table .entry))) p ⌝ }
@@ -110,42 +89,6 @@ fn not_above(table: &[u8], p: usize) -> bool
     }
     let held = below(name_at(table, p - 1), name_at(table, p));
     if held { false } else { true }
-}
-
-// How many of the first k entries are references.
-fn filled(refs: [u32; 31], k: usize) -> usize
-    requires { ⌜ k ≤ 31 ⌝ }
-    ensures { λ r. ⌜ r ≡ countTo (λ i. not (eqb (getD refs i 0) 0)) k ⌝ }
-{
-    let mut c: usize = 0;
-    let mut i: usize = 0;
-    while i < k {
-        if refs[i] != 0 {
-            c += 1;
-        }
-        i += 1;
-    }
-    c
-}
-
-fn entries_wrong(n: u8, v: Vertex) -> bool
-    requires { ⌜ n ≤ 31 ⌝ }
-    ensures { λ r. ⌜ r ≡ entriesWrong n v ⌝ }
-{
-    let refs = v.refs;
-    let all = filled(refs, ENTRIES);
-    if v.round == 1 {
-        if 0 < all {
-            return true;
-        }
-    }
-    if filled(refs, n as usize) < all {
-        return true;
-    }
-    if 1 < v.round {
-        return all < tally::quorum_of(n);
-    }
-    false
 }
 
 // Whether some entry names no earlier record. Each reference is looked for by halves among the earlier records, whose names rise;
@@ -187,12 +130,6 @@ fn not_earlier(n: u8, table: &[u8], p: usize, v: Vertex) -> bool
         i += 1;
     };
     missing
-}
-
-fn round_above(v: Vertex) -> bool
-    ensures { λ r. ⌜ r ≡ roundAbove v ⌝ }
-{
-    LAST_ROUND < v.round
 }
 
 // ---- the rows in order

@@ -1,13 +1,10 @@
 -- `table::four_to_seven` meets its contract.
 -- Assumes nothing.
 use mathlib.Core.Path.{refl, _∙_}
-use Rattle.table.proofs.Records.{count-few, sum-is}
+use Rattle.table.proofs.Records.{sum-is}
 use borrow.Author.Needs.{needs}
 use Rattle.table.proofs.four_to_seven.Statement.{statement}
 use Rattle.table.proofs.four_to_seven.Tie as tie
-
-entries-wrong-requires : tie.Need-entries-wrong-requires
-entries-wrong-requires c κs = count-few _ (c .before .before .before .before .before .before .before .before .pre .count)
 
 returns : tie.Need-returns
 returns c =
@@ -37,5 +34,5 @@ pub four-to-seven-spec : {M : Type 1} → statement M
 four-to-seven-spec =
     tie.close
     (tie.spec (λ c κs. search needs) (λ c κs. search needs) (λ c κs. search needs) (λ c κs. search needs) (λ c κs. search needs)
-    (λ c κs. search needs) (λ c κs. search needs) entries-wrong-requires (λ c κs. search needs) (λ c κs. search needs) (λ c κs. search needs)
+    (λ c κs. search needs) (λ c κs. search needs) (λ c κs. search needs) (λ c κs. search needs) (λ c κs. search needs) (λ c κs. search needs)
     (λ c κs. search needs) returns)

@@ -1,9 +1,9 @@
--- `table::round_above` meets its contract.
+-- `rows::round_above` meets its contract.
 -- Assumes nothing.
 use mathlib.Core.Path.{refl}
 use Rattle.rules.specs.Check.{roundAbove}
-use Rattle.table.proofs.round_above.Statement.{statement}
-use Rattle.table.proofs.round_above.Tie as tie
+use Rattle.rows.proofs.round_above.Statement.{statement}
+use Rattle.rows.proofs.round_above.Tie as tie
 
 returns : tie.Need-returns
 unfolding roundAbove

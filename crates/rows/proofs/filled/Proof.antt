@@ -1,4 +1,4 @@
--- `table::filled` meets its contract. The loop's invariant: c references stand among the first i entries.
+-- `rows::filled` meets its contract. The loop's invariant: c references stand among the first i entries.
 -- The measure is the entries that are left.
 -- Assumes nothing.
 use Prim.Native.Nat.{ℕ, _-_, _≤_}
@@ -14,8 +14,8 @@ use Rattle.folds.proofs.Tests.{is-not, is-not-true}
 use Rattle.folds.proofs.Laws.{count-start, count-yes, count-no}
 use native.Mathlib.Omega.{arith}
 use borrow.Author.Needs.{needs}
-use Rattle.table.proofs.filled.Statement.{statement}
-use Rattle.table.proofs.filled.Tie as tie
+use Rattle.rows.proofs.filled.Statement.{statement}
+use Rattle.rows.proofs.filled.Tie as tie
 
 -- entry i is a reference
 abbrev filled-at : List ℕ → ℕ → Bool

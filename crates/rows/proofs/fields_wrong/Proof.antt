@@ -1,4 +1,4 @@
--- `table::fields_wrong` meets its contract, test by test.
+-- `rows::fields_wrong` meets its contract, test by test.
 -- Assumes nothing.
 use Prim.Native.Nat.{_<_, _≤_}
 use mathlib.Core.Path.{_≡_}
@@ -6,8 +6,8 @@ use mathlib.Core.Logic.{_≢_}
 use borrow.Author.Tests.{eq-eqb, ne-eqb, le-leb, lt-leb}
 use Rattle.folds.specs.Folds.{_or_}
 use Rattle.rules.specs.Check.{fieldsWrong}
-use Rattle.table.proofs.fields_wrong.Statement.{statement}
-use Rattle.table.proofs.fields_wrong.Tie as tie
+use Rattle.rows.proofs.fields_wrong.Statement.{statement}
+use Rattle.rows.proofs.fields_wrong.Tie as tie
 
 returns : tie.Need-returns
 unfolding fieldsWrong _or_

@@ -1,0 +1,77 @@
+// Rows of the check that look at one decoded record by itself: 5, 7 and 9.
+ghost use mathlib.Core.Path.{_≡_};
+ghost use mathlib.Core.Bool.{not};
+ghost use Prim.Native.Nat.{_≤_};
+ghost use lib.Dec.{eqb};
+ghost use lib.ListN.{getD};
+ghost use Rattle.folds.specs.Folds.{countTo};
+ghost use Rattle.rules.specs.Check.{fieldsWrong, entriesWrong, roundAbove};
+use rules::Vertex;
+use tally::quorum_of;
+use tally::smaller;
+
+const ENTRIES: usize = 31;
+
+const LAST_ROUND: u32 = 1400;
+
+// Row 5.
+pub fn fields_wrong(n: u8, v: Vertex) -> bool
+    ensures { λ r. ⌜ r ≡ fieldsWrong n v ⌝ }
+{
+    if v.padding != 0 {
+        return true;
+    }
+    if v.round == 0 {
+        return true;
+    }
+    if v.mark == 0 {
+        return true;
+    }
+    if v.author < n {
+        return false;
+    }
+    true
+}
+
+// How many of the first k entries are references.
+fn filled(refs: [u32; 31], k: usize) -> usize
+    requires { ⌜ k ≤ 31 ⌝ }
+    ensures { λ r. ⌜ r ≡ countTo (λ i. not (eqb (getD refs i 0) 0)) k ⌝ }
+{
+    let mut c: usize = 0;
+    let mut i: usize = 0;
+    while i < k {
+        if refs[i] != 0 {
+            c += 1;
+        }
+        i += 1;
+    }
+    c
+}
+
+// Row 7.
+pub fn entries_wrong(n: u8, v: Vertex) -> bool
+    ensures { λ r. ⌜ r ≡ entriesWrong n v ⌝ }
+{
+    let refs = v.refs;
+    let all = filled(refs, ENTRIES);
+    if v.round == 1 {
+        if 0 < all {
+            return true;
+        }
+    }
+    if filled(refs, smaller(n as usize, ENTRIES)) < all {
+        return true;
+    }
+    if 1 < v.round {
+        return all < quorum_of(n);
+    }
+    false
+}
+
+// Row 9.
+pub fn round_above(v: Vertex) -> bool
+    ensures { λ r. ⌜ r ≡ roundAbove v ⌝ }
+{
+    LAST_ROUND < v.round
+}

@@ -67,5 +67,5 @@ returns c =
 pub backing-spec : {M : Type 1} → statement M
 backing-spec =
     tie.close
-    (tie.spec Inv-loop μ-loop cast-places-of (λ c κs. search needs) loop-holds (λ c. search needs) array-read-back (λ c. search needs) (λ c κs. search needs) (λ c. search needs)
-    array-write-marks (λ c. search needs) (λ c. search needs) loop-again returns)
+    (tie.spec Inv-loop μ-loop cast-places-of (λ c κs. search needs) loop-holds (λ c. search needs) array-read-back (λ c. search needs)
+    (λ c κs. search needs) (λ c. search needs) array-write-marks (λ c. search needs) (λ c. search needs) loop-again returns)

@@ -85,5 +85,5 @@ returns c =
 pub mark-refs-spec : {M : Type 1} → statement M
 mark-refs-spec =
     tie.close
-    (tie.spec Inv-loop μ-loop cast-places-of (λ c κs. search needs) loop-holds (λ c. search needs) array-read-q (λ c. search needs) slice-read-with-history (λ c κs. search needs)
-    slice-write-work (λ c. search needs) (λ c. search needs) loop-again same-length returns)
+    (tie.spec Inv-loop μ-loop cast-places-of (λ c κs. search needs) loop-holds (λ c. search needs) array-read-q (λ c. search needs)
+    slice-read-with-history (λ c κs. search needs) slice-write-work (λ c. search needs) (λ c. search needs) loop-again same-length returns)

@@ -74,5 +74,5 @@ returns c =
 pub mark-more-spec : {M : Type 1} → statement M
 mark-more-spec =
     tie.close
-    (tie.spec Inv-loop μ-loop cast-places-of (λ c κs. search needs) loop-holds (λ c. search needs) array-read-q (λ c. search needs) mark-one-requires (λ c. search needs)
-    (λ c. search needs) loop-again (λ c. search needs) returns)
+    (tie.spec Inv-loop μ-loop cast-places-of (λ c κs. search needs) loop-holds (λ c. search needs) array-read-q (λ c. search needs) mark-one-requires
+    (λ c. search needs) (λ c. search needs) loop-again (λ c. search needs) returns)

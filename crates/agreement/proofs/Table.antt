@@ -4,15 +4,13 @@
 use Prim.Native.Nat.{ℕ, _≤_, _<_}
 use mathlib.Core.Path.{_≡_, sym, ap, _∙_, subst}
 use mathlib.Core.Logic.{_≢_}
-use mathlib.Core.Bool.{true, false}
+use mathlib.Core.Bool.{true}
 use mathlib.Core.List.{List}
 use native.Mathlib.Omega.{arith}
 use native.Mathlib.Nat.{le-refl}
-use lib.ListN.{length, getD}
-use Rattle.folds.specs.Folds.{_and_, anyTo}
+use lib.ListN.{length}
 use Rattle.folds.specs.Many.{Many}
-use Rattle.folds.proofs.Tests.{not-both, failed, and-left, and-right, and-true}
-use Rattle.folds.proofs.Laws.{any-witness, any-intro}
+use Rattle.folds.proofs.Tests.{not-both, failed}
 use Rattle.folds.proofs.Quorum.{many-map}
 use Rattle.rules.specs.declared.Name.{Name}
 use Rattle.rules.specs.declared.Vertex.{Vertex}

@@ -17,9 +17,9 @@ use Rattle.rules.specs.declared.Vertex.{Vertex}
 use Rattle.rules.specs.Record.{Edition, vertices}
 use Rattle.rules.specs.Support.{directCommit}
 use Rattle.rules.specs.History.{history}
-use Rattle.rules.specs.Authors.{Slots, leader, oneLeader}
+use Rattle.rules.specs.Authors.{leader, oneLeader}
 use Rattle.rules.specs.Decision.{Decision, undecided, skipped, committed, cell}
-use Rattle.rules.specs.Decide.{Setting, highest, inSlot, qualifies, lowest, choose, certifiedIn, anchor, throughAnchor, indirect, decide, decisions, decisionAt}
+use Rattle.rules.specs.Decide.{Setting, highest, inSlot, qualifies, lowest, choose, certifiedIn, throughAnchor, decide, decisions, decisionAt}
 use Rattle.rules.specs.Settlement.{writtenOver}
 use Rattle.rules.proofs.Slots.{Geometry}
 use Rattle.rules.proofs.Accepted.{Accepted}

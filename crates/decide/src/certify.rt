@@ -43,8 +43,8 @@ fn backing(n: u8, table: &[u8], w: usize, count: usize, leader: u8) -> [u32; 31]
     marks
 }
 
-// Where the vertex of that round and leader stands that the vertex at w certifies, or the number of records. What that one references is
-// among the first `count` records. No vertex has mark 0, so none is looked for.
+// Where the vertex of that round and leader stands that the vertex at w certifies, or the number of records. What the vertex at w references
+// is among the first `count` records. No vertex has mark 0, so none is looked for.
 pub(crate) fn certified_at(
     n: u8,
     table: &[u8],

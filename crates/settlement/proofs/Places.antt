@@ -4,7 +4,7 @@ use Prim.Native.Nat.{ℕ, _+_, _≤_, _<_}
 use mathlib.Core.Path.{_≡_, refl, sym, ap, _∙_}
 use mathlib.Core.List.{List, [], _∷_, _++_, append-assoc}
 use native.Mathlib.Omega.{arith}
-use lib.ListN.{length, set, take, drop, length-append, length-take, length-drop, take-append-drop}
+use lib.ListN.{length, set, take, drop, length-append, length-take, take-append-drop}
 use lib.Seq.{take-at, drop-append-add, drop-drop}
 use Rattle.folds.proofs.Lists.{put-next}
 use Rattle.settlement.specs.Write.{placesOver}

@@ -1,7 +1,7 @@
 // The check of a table: each row of document 01's list is a function that answers, and the first that refuses is the answer.
 ghost use mathlib.Core.Path.{_≡_};
 ghost use mathlib.Core.Bool.{true, not};
-ghost use Prim.Native.Nat.{_<_, _≤_};
+ghost use Prim.Native.Nat.{_<_};
 ghost use lib.Dec.{eqb};
 ghost use Rattle.rules.specs.Authors.{isCount};
 ghost use Rattle.rules.specs.Record.{first, sumOf, records, vertices};

@@ -7,7 +7,6 @@ use mathlib.Core.Logic.{⊎-elim, _≢_}
 use mathlib.Core.Bool.{cond}
 use mathlib.Core.List.{List}
 use native.Mathlib.Omega.{arith}
-use lib.Dec.{ltb}
 use borrow.Author.Tests.{eq-eqb, ne-eqb}
 use Rattle.rules.specs.declared.Name.{Name}
 use Rattle.rules.specs.Record.{first, records, recordAt, decode, entry, nameOf, named}

@@ -3,7 +3,6 @@
 use Prim.Native.Nat.{_≤_}
 use mathlib.Core.Path.{_≡_, sym, ap, _∙_}
 use mathlib.Core.Logic.{⊎-elim}
-use native.Mathlib.Omega.{arith}
 use Rattle.folds.specs.Folds.{countTo}
 use Rattle.rules.specs.Record.{refers}
 use Rattle.rows.proofs.Entries.{entries-first, entries-high, entries-quorum, entries-fine}

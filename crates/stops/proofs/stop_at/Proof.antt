@@ -1,7 +1,7 @@
 -- `stops::stop_at` meets its contract. The loop's invariant: every round passed is skipped. The measure is what is left up to the top.
 -- Assumes nothing.
 use Prim.Native.Nat.{_+_, _-_, _≤_}
-use mathlib.Core.Path.{_≡_, ap, sym, _∙_}
+use mathlib.Core.Path.{_≡_, ap, _∙_}
 use lib.ListN.{getD}
 use Rattle.stops.specs.Stops.{stopAt}
 use Rattle.stops.proofs.Stops.{SkippedTo, stop-more, stop-none, stop-here}

@@ -104,6 +104,11 @@ unfolding Below
 below-round x y (inl a) = omega arith
 below-round x y (inr (a, h)) = omega arith
 
+-- of two names of one round the authors tell
+pub named-below : (r a b m m′ : ℕ) → a < b → Below (named r a m) (named r b m′)
+unfolding Below
+named-below r a b m m′ l = inr (refl, inl l)
+
 -- of two names of one round and author the marks tell
 pub below-mark : (x y : Name) → Below x y → x .round ≡ y .round → x .author ≡ y .author → x .mark < y .mark
 unfolding Below

@@ -1,12 +1,12 @@
 -- Where the names of the first records rise: a name is looked for by halves among them, and what that says of `find`.
 -- Assumes nothing.
-use Prim.Native.Nat.{ℕ, _+_, _-_, _/_, _≤_, _<_, zero-le}
+use Prim.Native.Nat.{ℕ, _+_, _-_, _/_, _≤_, _<_}
 use mathlib.Core.Path.{_≡_, sym, _∙_, subst}
 use mathlib.Core.Logic.{_⊎_, inl, inr}
 use mathlib.Core.Bool.{Bool, true, false, cond}
 use mathlib.Core.List.{List}
 use native.Mathlib.Omega.{arith}
-use native.Mathlib.Nat.{le-refl, not-suc-le-zero}
+use native.Mathlib.Nat.{le-refl}
 use lib.Dec.{ltb}
 use lib.ListN.{length}
 use borrow.Author.Tests.{ltb-true, ltb-false}
@@ -31,15 +31,17 @@ pub record Searched (t : List ℕ) (p : ℕ) (x : Name) (lo hi : ℕ) : Type 0 w
   pub low : (j : ℕ) → j < lo → sameName (nameAt t j) x ≡ false
   pub high : (j : ℕ) → hi ≤ j → j < p → sameName (nameAt t j) x ≡ false
 
-pub searched-start : (t : List ℕ) (p : ℕ) (x : Name) → Searched t p x 0 p
-searched-start t p x = record { ordered = zero-le; within = le-refl p; low = λ j l. absurd (not-suc-le-zero l); high = λ j h l. absurd (omega arith) }
-
 -- a name below x is not x, and none above it is
 pub not-lower : (x y : Name) → Below y x → sameName y x ≡ false
 not-lower x y b = failed _ (λ s. below-irrefl y x (same-name y x s) b)
 
 pub not-higher : (x y : Name) → Below x y → sameName y x ≡ false
 not-higher x y b = failed _ (λ s. below-irrefl x y (sym (same-name y x s)) b)
+
+-- a search may begin past records whose names are below x
+pub searched-from : (t : List ℕ) (p : ℕ) (x : Name) (from : ℕ) → from ≤ p → ((j : ℕ) → j < from → Below (nameAt t j) x) → Searched t p x from p
+searched-from t p x from h b =
+    record { ordered = h; within = le-refl p; low = λ j l. not-lower x (nameAt t j) (b j l); high = λ j h l. absurd (omega arith) }
 
 -- what is neither x nor below x is above it
 pub higher : (x y : Name) → sameName y x ≡ false → below y x ≡ false → Below x y

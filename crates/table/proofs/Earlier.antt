@@ -1,21 +1,22 @@
 -- Check 8: what the entries that name no earlier record make of it.
 -- Assumes nothing.
-use Prim.Native.Nat.{ℕ, _+_, _-_, _≤_, _<_}
-use mathlib.Core.Path.{_≡_, _∙_, subst}
+use Prim.Native.Nat.{ℕ, _+_, _-_, _≤_, _<_, zero-le}
+use mathlib.Core.Path.{_≡_, sym, _∙_, subst}
 use mathlib.Core.Logic.{_≢_}
 use mathlib.Core.Bool.{Bool, true, false}
 use mathlib.Core.List.{List}
 use native.Mathlib.Omega.{arith}
-use lib.Dec.{leb}
-use borrow.Author.Tests.{le-leb, lt-leb, eq-eqb, ne-eqb}
+use native.Mathlib.Nat.{not-suc-le-zero}
+use lib.Dec.{leb, ltb}
+use borrow.Author.Tests.{le-leb, lt-leb, eq-eqb, ne-eqb, ltb-true, ltb-false}
 use Rattle.folds.specs.Folds.{_and_, anyTo}
-use Rattle.folds.proofs.Tests.{not-both, failed, and-right, and-true, and-false, or-neither, is-not, is-not-true}
+use Rattle.folds.proofs.Tests.{by-test, not-both, failed, and-right, and-true, and-false, or-neither, is-not, is-not-true}
 use Rattle.folds.proofs.Laws.{any-none, any-intro, any-cut}
 use Rattle.rules.specs.declared.Name.{Name}
 use Rattle.rules.specs.declared.Vertex.{Vertex}
-use Rattle.rules.specs.Record.{first, records, vertices, at, nameOf, entry, refers, entryName, sameName, find}
+use Rattle.rules.specs.Record.{first, records, vertices, at, nameOf, entry, refers, entryName, named, sameName, find}
 use Rattle.rules.specs.Check.{entriesWrong, notEarlier}
-use Rattle.rules.proofs.Names.{Below}
+use Rattle.rules.proofs.Names.{Below, same-name, named-below, below-trans}
 use Rattle.rules.proofs.Records.{vertices-at}
 use Rattle.rules.proofs.Accepted.{rising-to}
 use Rattle.search.specs.Search.{nameAt}
@@ -27,6 +28,31 @@ rise n t p v R i j l h =
     let w : p < records first t = R .within in
     let q : Below (nameOf (at (vertices first t) i)) (nameOf (at (vertices first t) j)) = rising-to (vertices first t) p (R .rises) i j l h in
     rw (vertices-at first t i (omega arith), vertices-at first t j (omega arith)) at q
+
+-- ---- where the search for an entry may begin
+
+-- The records before `from` stand below whatever an entry from i on can name.
+pub record Passed (t : List ℕ) (p : ℕ) (v : Vertex) (i from : ℕ) : Type 0 where
+  pub within : from ≤ p
+  pub lower : (j : ℕ) → j < from → (a mark : ℕ) → i ≤ a → Below (nameAt t j) (named (v .round - 1) a mark)
+
+pub passed-start : (t : List ℕ) (p : ℕ) (v : Vertex) → Passed t p v 0 0
+passed-start t p v = record { within = zero-le; lower = λ j l. absurd (not-suc-le-zero l) }
+
+pub passed-next : (t : List ℕ) (p : ℕ) (v : Vertex) (i from : ℕ) → Passed t p v i from → Passed t p v (i + 1) from
+passed-next t p v i from P = record { within = P .within; lower = λ j l a mark h. P .lower j l a mark (omega arith) }
+
+-- entry i stands at m
+pub passed-found : (t : List ℕ) (p : ℕ) (v : Vertex) (i mark m : ℕ) → Rise t p → m < p → sameName (nameAt t m) (named (v .round - 1) i mark) ≡ true
+    → Passed t p v (i + 1) (m + 1)
+passed-found t p v i mark m r h e = record {
+  within = omega arith;
+  lower = λ j l a mark′ k.
+      let next : Below (nameAt t m) (named (v .round - 1) a mark′) = rw (same-name _ _ e) (named-below (v .round - 1) i a mark mark′ (omega arith)) in
+      by-test (ltb j m)
+      (λ b. below-trans _ _ _ (r j m (ltb-true j m b) h) next)
+      (λ b. let q : j ≡ m = omega (arith, ltb-false j m b) in subst (λ i. Below (nameAt t i) (named (v .round - 1) a mark′)) (sym q) next);
+}
 
 -- ---- the entries
 

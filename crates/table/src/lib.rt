@@ -91,8 +91,8 @@ fn not_above(table: &[u8], p: usize) -> bool
     if held { false } else { true }
 }
 
-// Whether some entry names no earlier record. Each reference is looked for by halves among the earlier records, whose names rise;
-// the first that stands nowhere leaves both loops.
+// Whether some entry names no earlier record. Each reference is looked for by halves among the earlier records, whose names rise, and past
+// the reference before it, which has a lower author; the first that stands nowhere leaves both loops.
 fn not_earlier(n: u8, table: &[u8], p: usize, v: Vertex) -> bool
     requires { ⌜ Ready n (now table) p v ⌝ }
     ensures { λ r. ⌜ r ≡ notEarlier (vertices first (now (table .entry))) p ⌝ }
@@ -100,6 +100,7 @@ fn not_earlier(n: u8, table: &[u8], p: usize, v: Vertex) -> bool
     let refs = v.refs;
     let k = n as usize;
     let mut i: usize = 0;
+    let mut from: usize = 0;
     let missing = 'entries: loop {
         if k <= i {
             break 'entries false;
@@ -111,21 +112,22 @@ fn not_earlier(n: u8, table: &[u8], p: usize, v: Vertex) -> bool
                 author: i as u8,
                 mark,
             };
-            let mut lo: usize = 0;
+            let mut lo = from;
             let mut hi: usize = p;
-            loop {
+            let found = loop {
                 if hi <= lo {
                     break 'entries true;
                 }
                 let m = lo + (hi - lo) / 2;
                 let y = name_at(table, m);
                 if same(y, x) {
-                    break;
+                    break m;
                 }
                 let held = below(y, x);
                 lo = raised(held, lo, m);
                 hi = lowered(held, hi, m);
-            }
+            };
+            from = found + 1;
         }
         i += 1;
     };

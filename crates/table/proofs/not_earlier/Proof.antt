@@ -1,4 +1,5 @@
--- `table::not_earlier` meets its contract. The outer loop's invariant: each of the first i entries names an earlier record or none at all.
+-- `table::not_earlier` meets its contract. The outer loop's invariant: each of the first i entries names an earlier record or none at all,
+-- and the records before `from` stand below what a later entry can name.
 -- The inner one's: of the records before p none below lo and none from hi on has the name that is looked for.
 -- The measures are the entries and the records that are left.
 -- Assumes nothing.
@@ -13,30 +14,33 @@ use Rattle.rules.proofs.Names.{entry-named}
 use Rattle.search.specs.Search.{nameAt}
 use Rattle.search.proofs.Names.{name-at}
 use Rattle.search.proofs.Search.{raised-is, halved}
-use Rattle.search.proofs.Rise.{Searched, searched-start, searched-turn}
-use Rattle.table.proofs.Earlier.{rise, missing, missing-empty, none-missing, some-missing, not-missing}
+use Rattle.search.proofs.Rise.{Searched, searched-from, searched-turn}
+use Rattle.table.proofs.Earlier.{rise, Passed, passed-start, passed-next, passed-found, missing, missing-empty, none-missing, some-missing, not-missing}
 use native.Mathlib.Omega.{arith}
+use native.Mathlib.Nat.{le-refl}
 use borrow.Author.Needs.{needs}
 use Rattle.table.proofs.not_earlier.Statement.{statement}
 use Rattle.table.proofs.not_earlier.Tie as tie
 
 abbrev Inv-loop : tie.InvT-loop
-Inv-loop n table p v refs k i mark x lo₀ hi₀ lo hi = Searched table p x lo hi
+Inv-loop n table p v refs k i from mark x lo₀ hi₀ lo hi = Searched table p x lo hi
 
 abbrev μ-loop : tie.MeasureT-loop
-μ-loop n table p v refs k i mark x lo₀ hi₀ lo hi = hi - lo
+μ-loop n table p v refs k i from mark x lo₀ hi₀ lo hi = hi - lo
 
 abbrev Inv-entries : tie.InvT-entries
-Inv-entries n table p v refs k i₀ i = (i ≤ k) × (anyTo (missing table p v) i ≡ false)
+Inv-entries n table p v refs k i₀ from₀ i from = (i ≤ k) × (anyTo (missing table p v) i ≡ false) × Passed table p v i from
 
 abbrev μ-entries : tie.MeasureT-entries
-μ-entries n table p v refs k i₀ i = k - i
+μ-entries n table p v refs k i₀ from₀ i from = k - i
 
 entries-holds : tie.Need-entries-holds Inv-loop μ-loop Inv-entries μ-entries
-entries-holds c = (omega arith, any-start _)
+entries-holds c = (omega arith, any-start _, passed-start _ _ _)
 
 loop-holds : tie.Need-loop-holds Inv-loop μ-loop Inv-entries μ-entries
-loop-holds c = searched-start _ _ _
+loop-holds c =
+    let P = c .before .before .before .entries .inv .2 in
+    searched-from _ _ _ _ (P .within) (λ j l. P .lower j l _ _ (le-refl _))
 
 loop-less : tie.Need-loop-less Inv-loop μ-loop Inv-entries μ-entries
 loop-less c =
@@ -70,19 +74,25 @@ entries-again c =
     let t = s .args .table .now in
     let i = e .entries .i in
     let v = s .args .v in
-    let none : missing t (s .args .p) v i ≡ false =
+    let one : (missing t (s .args .p) v i ≡ false) × Passed t (s .args .p) v (i + 1) (c .if2 .from) =
     ⊎-elim
     (λ w.
-    let x = named (v .round - 1) i (entry v i) in
+    let mark = entry v i in
+    let x = named (v .round - 1) i mark in
     let m = w .2 .lo + (w .2 .hi - w .2 .lo) / 2 in
     let low : m < s .args .p = omega (arith, w .2 .inv .within) in
     let read : w .4 .result ≡ nameAt t m = w .4 .ensures ∙ name-at t m (omega (arith, s .pre .within)) in
     let found : sameName (nameAt t m) x ≡ true = rw (← read, ← w .5 .ensures) (w .6 .taken) in
-    not-missing (s .args .n) t (s .args .p) v (s .pre) i x (entry-named v i) (w .0 .taken) m low found)
-    (λ w. missing-empty t (s .args .p) v i (w .left))
+    let past : c .if2 .from ≡ m + 1 = w .7 in
+    let rises = rise (s .args .n) t (s .args .p) v (s .pre) in
+    (not-missing (s .args .n) t (s .args .p) v (s .pre) i x (entry-named v i) (w .0 .taken) m low found,
+    rw past (passed-found t (s .args .p) v i mark m rises low found)))
+    (λ w.
+    let kept : c .if2 .from ≡ e .entries .from = w .1 in
+    (missing-empty t (s .args .p) v i (w .0 .left), rw kept (passed-next t (s .args .p) v i (e .entries .from) (e .entries .inv .2))))
     (c .if2 .came)
     in
-    (omega arith, any-next (missing t (s .args .p) v) i none (e .entries .inv .1))
+    (omega arith, any-next (missing t (s .args .p) v) i (one .0) (e .entries .inv .1), one .1)
 
 returns : tie.Need-returns Inv-loop μ-loop Inv-entries μ-entries
 returns c =
@@ -107,4 +117,4 @@ not-earlier-spec =
     tie.close
     (tie.spec Inv-loop μ-loop Inv-entries μ-entries entries-holds (λ c. search needs) (λ c. search needs) (λ c. search needs) (λ c. search needs)
     loop-holds (λ c. search needs) (λ c. search needs) (λ c κs. search needs) (λ c κs. search needs) (λ c κs. search needs) (λ c κs. search needs)
-    (λ c κs. search needs) loop-less loop-again (λ c. search needs) (λ c. search needs) entries-again returns returns-2)
+    (λ c κs. search needs) loop-less loop-again (λ c. search needs) (λ c. search needs) (λ c. search needs) entries-again returns returns-2)

@@ -67,35 +67,44 @@ fn filled(entries: &[u32]) -> usize {
     entries.iter().filter(|&&mark| mark != 0).count()
 }
 
-/// Every reference names an earlier record. In round 1 there is none.
+/// Every reference names an earlier record. In round 1 there is none. Each one has a
+/// higher author than the one before, so its name stands above it.
 #[inline]
 fn all_stand(earlier: &[Record], round: u32, refs: &[u32]) -> bool {
-    (0u8..).zip(refs).all(|(author, &mark)| {
+    let mut from = 0;
+    for (author, &mark) in (0u8..).zip(refs) {
+        if mark == 0 {
+            continue;
+        }
         let name = Name {
             round: round.wrapping_sub(1),
             author,
             mark,
         };
-        mark == 0 || stands(earlier, name)
-    })
+        match place_from(earlier, from, name) {
+            Some(found) => from = found + 1,
+            None => return false,
+        }
+    }
+    true
 }
 
-/// The search by halves, among records whose names rise.
+/// The search by halves from a position on, among records whose names rise.
 #[inline]
-fn stands(earlier: &[Record], name: Name) -> bool {
-    let (mut low, mut high) = (0, earlier.len());
+fn place_from(earlier: &[Record], from: usize, name: Name) -> Option<usize> {
+    let (mut low, mut high) = (from, earlier.len());
     while low < high {
         let middle = low.midpoint(high);
         let there = name_of(&earlier[middle]);
         if same(there, name) {
-            return true;
+            return Some(middle);
         }
         match below(there, name) {
             true => low = middle + 1,
             false => high = middle,
         }
     }
-    false
+    None
 }
 
 // By hand: with the order that Rust derives, the search takes a tenth more

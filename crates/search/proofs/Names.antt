@@ -1,33 +1,11 @@
--- The test of which name is below, part by part, and the name of the record at a position.
+-- The name of the record at a position.
 -- Assumes nothing.
 use Prim.Native.Nat.{ℕ, _<_}
 use mathlib.Core.Path.{_≡_, ap}
 use mathlib.Core.List.{List}
-use native.Mathlib.Omega.{arith}
-use lib.Dec.{ltb}
-use borrow.Author.Tests.{eq-eqb, ne-eqb, le-ltb}
-use Rattle.folds.specs.Folds.{_and_, _or_}
-use Rattle.folds.proofs.Tests.{or-none}
-use Rattle.rules.specs.declared.Name.{Name}
-use Rattle.rules.specs.Record.{first, records, vertices, at, nameOf, below}
+use Rattle.rules.specs.Record.{first, records, vertices, at, nameOf}
 use Rattle.rules.proofs.Records.{vertices-at}
 use Rattle.search.specs.Search.{nameAt}
-
--- ---- below, by the first part in which two names differ
-
-pub by-round : (x y : Name) → (x .round ≡ y .round → ⊥) → below x y ≡ ltb (x .round) (y .round)
-unfolding below _and_
-by-round x y r = rw (ne-eqb _ _ r) (or-none _)
-
-pub by-author : (x y : Name) → x .round ≡ y .round → (x .author ≡ y .author → ⊥) → below x y ≡ ltb (x .author) (y .author)
-unfolding below _and_ _or_
-by-author x y r a = rw (eq-eqb _ _ r, le-ltb (x .round) (y .round) (omega arith), ne-eqb _ _ a) (or-none _)
-
-pub by-mark : (x y : Name) → x .round ≡ y .round → x .author ≡ y .author → below x y ≡ ltb (x .mark) (y .mark)
-unfolding below _and_ _or_
-by-mark x y r a = rw (eq-eqb _ _ r, le-ltb (x .round) (y .round) (omega arith), eq-eqb _ _ a, le-ltb (x .author) (y .author) (omega arith))
-
--- ---- the record at a position
 
 pub name-at : (t : List ℕ) (p : ℕ) → p < records first t → nameOf (at (vertices first t) p) ≡ nameAt t p
 name-at t p l = ap nameOf (vertices-at first t p l)

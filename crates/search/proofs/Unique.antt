@@ -3,32 +3,12 @@
 -- Assumes nothing.
 use mathlib.Core.Path.{_≡_, sym, _∙_}
 use Rattle.rules.proofs.Only.{Only}
-use Rattle.search.proofs.below.Kinds as below-kinds
-use Rattle.search.proofs.below.Reads as below
-use Rattle.search.proofs.same.Kinds as same-kinds
-use Rattle.search.proofs.same.Reads as same
-use Rattle.search.proofs.raised.Kinds as raised-kinds
-use Rattle.search.proofs.raised.Reads as raised
-use Rattle.search.proofs.lowered.Kinds as lowered-kinds
-use Rattle.search.proofs.lowered.Reads as lowered
 use Rattle.search.proofs.place.Kinds as place-kinds
 use Rattle.search.proofs.place.Reads as place
 use Rattle.search.proofs.find.Kinds as find-kinds
 use Rattle.search.proofs.find.Reads as find
 use Rattle.search.proofs.highest_of.Kinds as highest-of-kinds
 use Rattle.search.proofs.highest_of.Reads as highest-of
-
-pub below-unique : Only 0 below-kinds.ps below-kinds.r (λ κs x e y f. x ≡ y) below.Post
-below-unique κs a x y e f p q = p ∙ sym q
-
-pub same-unique : Only 0 same-kinds.ps same-kinds.r (λ κs x e y f. x ≡ y) same.Post
-same-unique κs a x y e f p q = p ∙ sym q
-
-pub raised-unique : Only 0 raised-kinds.ps raised-kinds.r (λ κs x e y f. x ≡ y) raised.Post
-raised-unique κs a x y e f p q = p ∙ sym q
-
-pub lowered-unique : Only 0 lowered-kinds.ps lowered-kinds.r (λ κs x e y f. x ≡ y) lowered.Post
-lowered-unique κs a x y e f p q = p ∙ sym q
 
 pub place-unique : Only 1 place-kinds.ps place-kinds.r (λ κs x e y f. x ≡ y) place.Post
 place-unique κs a x y e f p q = p ∙ sym q

@@ -1,60 +1,20 @@
 // The search by name in a table, by halves, and the highest round. Nothing is asked of the table: what is answered on names that do not
 // rise is defined too.
 ghost use mathlib.Core.Path.{_≡_};
-ghost use mathlib.Core.Bool.{cond};
-ghost use Prim.Native.Nat.{_+_, _%_, _≤_, min};
-ghost use Rattle.rules.specs.Record.{first, records, vertices, sameName};
-ghost use Rattle.rules.specs.Record.{below as isBelow};
+ghost use Prim.Native.Nat.{_≤_, min};
+ghost use Rattle.rules.specs.Record.{first, records, vertices};
 ghost use Rattle.rules.specs.Decide.{highest};
 ghost use Rattle.search.specs.Search.{nameAt, placeOf, findBelow};
+use names::below;
+use names::lowered;
+use names::raised;
+use names::same;
 use record::name_at;
 use record::records_of;
 use rules::Name;
 use tally::smaller;
 
-// ---- names
-
-// x stands below y, by round, then author, then mark.
-pub fn below(x: Name, y: Name) -> bool
-    ensures { λ r. ⌜ r ≡ isBelow x y ⌝ }
-{
-    if x.round != y.round {
-        return x.round < y.round;
-    }
-    if x.author != y.author {
-        return x.author < y.author;
-    }
-    x.mark < y.mark
-}
-
-pub fn same(x: Name, y: Name) -> bool
-    ensures { λ r. ⌜ r ≡ sameName x y ⌝ }
-{
-    if x.round != y.round {
-        return false;
-    }
-    if x.author != y.author {
-        return false;
-    }
-    x.mark == y.mark
-}
-
 // ---- the search by halves
-
-// Past the middle, where the test held there. No search reaches the largest number there is, and a sum that wraps leaves the compiler no branch.
-pub fn raised(held: bool, lo: usize, m: usize) -> usize
-    ensures { λ r. ⌜ r ≡ cond held ((m + 1) % 18446744073709551616) lo ⌝ }
-{
-    let past = std::num::wrapping_add_usize(m, 1);
-    if held { past } else { lo }
-}
-
-// Down to the middle, where it did not.
-pub fn lowered(held: bool, hi: usize, m: usize) -> usize
-    ensures { λ r. ⌜ r ≡ cond held hi m ⌝ }
-{
-    if held { hi } else { m }
-}
 
 // Where x stands or would stand among the first k records, if their names rise.
 fn place_of(table: &[u8], k: usize, x: Name) -> usize

@@ -11,6 +11,10 @@ ghost use Rattle.rules.specs.Check.{notAbove, notEarlier, checkRecord, checkTab
 ghost use Rattle.rules.specs.Check.{check as checked};
 ghost use Rattle.table.specs.Ready.{Reached, Ready};
 ghost use Rattle.table.specs.Rows.{fourToSeven};
+use names::below;
+use names::lowered;
+use names::raised;
+use names::same;
 use record::RECORD;
 use record::name_at;
 use record::part;
@@ -22,10 +26,6 @@ use rules::Checked;
 use rules::Name;
 use rules::Refusal;
 use rules::Vertex;
-use search::below;
-use search::lowered;
-use search::raised;
-use search::same;
 
 const MOST: usize = 4096;
 

@@ -1,9 +1,9 @@
--- `search::below` meets its contract: the first part in which the names differ decides.
+-- `names::below` meets its contract: the first part in which the names differ decides.
 -- Assumes nothing.
 use mathlib.Core.Path.{sym}
-use Rattle.search.proofs.Names.{by-round, by-author, by-mark}
-use Rattle.search.proofs.below.Statement.{statement}
-use Rattle.search.proofs.below.Tie as tie
+use Rattle.names.proofs.Names.{by-round, by-author, by-mark}
+use Rattle.names.proofs.below.Statement.{statement}
+use Rattle.names.proofs.below.Tie as tie
 
 returns : tie.Need-returns
 returns c = sym (by-round _ _ (c .before .before .if1 .taken))

@@ -1,11 +1,11 @@
--- `search::same` meets its contract, part by part.
+-- `names::same` meets its contract, part by part.
 -- Assumes nothing.
 use mathlib.Core.Path.{refl}
 use borrow.Author.Tests.{eq-eqb, ne-eqb}
 use Rattle.folds.specs.Folds.{_and_}
 use Rattle.rules.specs.Record.{sameName}
-use Rattle.search.proofs.same.Statement.{statement}
-use Rattle.search.proofs.same.Tie as tie
+use Rattle.names.proofs.same.Statement.{statement}
+use Rattle.names.proofs.same.Tie as tie
 
 returns : tie.Need-returns
 unfolding sameName _and_

@@ -1,8 +1,8 @@
--- `search::lowered` meets its contract.
+-- `names::lowered` meets its contract.
 -- Assumes nothing.
 use mathlib.Core.Path.{refl}
-use Rattle.search.proofs.lowered.Statement.{statement}
-use Rattle.search.proofs.lowered.Tie as tie
+use Rattle.names.proofs.lowered.Statement.{statement}
+use Rattle.names.proofs.lowered.Tie as tie
 
 returns : tie.Need-returns
 returns c = rw (c .if1 .taken) refl

@@ -1,8 +1,8 @@
--- `search::raised` meets its contract.
+-- `names::raised` meets its contract.
 -- Assumes nothing.
 use borrow.Author.Needs.{needs}
-use Rattle.search.proofs.raised.Statement.{statement}
-use Rattle.search.proofs.raised.Tie as tie
+use Rattle.names.proofs.raised.Statement.{statement}
+use Rattle.names.proofs.raised.Tie as tie
 
 returns : tie.Need-returns
 returns c = rw (c .if1 .taken) (c .before .wrapping-add-usize .ensures)

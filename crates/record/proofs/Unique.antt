@@ -8,8 +8,6 @@ use Rattle.record.proofs.records_of.Kinds as records-of-kinds
 use Rattle.record.proofs.records_of.Reads as records-of
 use Rattle.record.proofs.part.Kinds as part-kinds
 use Rattle.record.proofs.part.Reads as part
-use Rattle.record.proofs.sum_of.Kinds as sum-of-kinds
-use Rattle.record.proofs.sum_of.Reads as sum-of
 use Rattle.record.proofs.refs_of.Kinds as refs-of-kinds
 use Rattle.record.proofs.refs_of.Reads as refs-of
 use Rattle.record.proofs.decode.Kinds as decode-kinds
@@ -28,9 +26,6 @@ records-of-unique κs a x y e f p q = p ∙ sym q
 
 pub part-unique : Only 1 part-kinds.ps part-kinds.r (λ κs x e y f. SamePart x y) part.Post
 part-unique κs a x y e f p q = record { block = p .block ∙ sym (q .block); place = p .place ∙ sym (q .place); bytes = p .bytes ∙ sym (q .bytes) }
-
-pub sum-of-unique : Only 1 sum-of-kinds.ps sum-of-kinds.r (λ κs x e y f. x ≡ y) sum-of.Post
-sum-of-unique κs a x y e f p q = p ∙ sym q
 
 pub refs-of-unique : Only 1 refs-of-kinds.ps refs-of-kinds.r (λ κs x e y f. x ≡ y) refs-of.Post
 refs-of-unique κs a x y e f p q = p ∙ sym q

@@ -1,15 +1,12 @@
 // One record, read from lent bytes. A read past the end is 0, so no function asks its caller for anything.
 ghost use mathlib.Core.Path.{_≡_};
-ghost use Rattle.record.specs.Copy.{copyOf};
 ghost use Rattle.record.specs.Part.{RecordPart};
-ghost use Rattle.rules.specs.Record.{first, records, vertices, at, decode as decoded, sumOf, nameOf, entry};
+ghost use Rattle.rules.specs.Record.{first, records, vertices, at, decode as decoded, nameOf, entry};
 use numbers::byte_at;
-use numbers::join_two;
 use numbers::u16_at;
 use numbers::u32_at;
 use rules::Name;
 use rules::Vertex;
-use tally::smaller;
 
 // The length of a record.
 pub const RECORD: usize = 138;
@@ -52,41 +49,6 @@ pub fn part(table: &[u8], p: usize) -> &[u8]
 }
 
 // ---- fields
-
-// A copy of the record as it stands, with 0 past the end of b. It is filled only as far as b has bytes, so no byte is tested for its place.
-fn copy_of(b: &[u8]) -> [u8; 138]
-    ensures { λ r. ⌜ r ≡ copyOf first (now (b .entry)) ⌝ }
-{
-    let n = smaller(b.len(), 138);
-    let mut c = [0u8; 138];
-    let mut i: usize = 0;
-    while i < n {
-        c[i] = b[i];
-        i += 1;
-    }
-    c
-}
-
-// The 68 words before the sum, the padding among them. Every carry out of the top is dropped.
-fn sum_words(c: [u8; 138]) -> u16
-    ensures { λ r. ⌜ r ≡ sumOf first c ⌝ }
-{
-    let mut sum: u16 = 0;
-    let mut i: usize = 0;
-    while i < 68 {
-        let word = join_two(c[2 * i], c[2 * i + 1]);
-        sum = std::num::wrapping_add_u16(sum, word);
-        i += 1;
-    }
-    sum
-}
-
-// The sum that the record should carry.
-pub fn sum_of(b: &[u8]) -> u16
-    ensures { λ r. ⌜ r ≡ sumOf first (now (b .entry)) ⌝ }
-{
-    sum_words(copy_of(b))
-}
 
 // The 31 references, taken out as one value.
 pub fn refs_of(b: &[u8]) -> [u32; 31]

@@ -77,7 +77,7 @@ fn check_count(n: u8) -> Checked
 fn sum_differs(b: &[u8], sum: u16) -> bool
     ensures { λ r. ⌜ r ≡ not (eqb (sumOf first (now (b .entry))) sum) ⌝ }
 {
-    record::sum_of(b) != sum
+    sum::sum_of(b) != sum
 }
 
 // Position above 0, and the name is not above the one before it.

@@ -1,11 +1,11 @@
--- `record::sum_of` meets its contract: the copy has the sum of what it is a copy of.
+-- `sum::sum_of` meets its contract: the copy has the sum of what it is a copy of.
 -- Assumes nothing.
 use mathlib.Core.Path.{_∙_}
 use Rattle.rules.specs.Record.{first}
-use Rattle.record.proofs.Laws.{copy-sum}
+use Rattle.sum.proofs.Copies.{copy-sum}
 use borrow.Author.Needs.{needs}
-use Rattle.record.proofs.sum_of.Statement.{statement}
-use Rattle.record.proofs.sum_of.Tie as tie
+use Rattle.sum.proofs.sum_of.Statement.{statement}
+use Rattle.sum.proofs.sum_of.Tie as tie
 
 returns : tie.Need-returns
 returns c =

@@ -1,4 +1,4 @@
--- `record::sum_words` meets its contract. The loop's invariant: the sum is that of the first i words as whole numbers, modulo 65536.
+-- `sum::sum_words` meets its contract. The loop's invariant: the sum is that of the first i words as whole numbers, modulo 65536.
 -- The measure is the words that are left.
 -- Assumes nothing.
 use Prim.Native.Nat.{ℕ, _-_, _*_, _%_, _≤_}
@@ -10,8 +10,8 @@ use Rattle.rules.specs.Record.{number, sumOf}
 use Rattle.numbers.proofs.Numbers.{number-two}
 use native.Mathlib.Omega.{arith}
 use borrow.Author.Needs.{needs}
-use Rattle.record.proofs.sum_words.Statement.{statement}
-use Rattle.record.proofs.sum_words.Tie as tie
+use Rattle.sum.proofs.sum_words.Statement.{statement}
+use Rattle.sum.proofs.sum_words.Tie as tie
 
 -- word i of the copy
 abbrev word : List ℕ → ℕ → ℕ

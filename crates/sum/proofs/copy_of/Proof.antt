@@ -1,16 +1,16 @@
--- `record::copy_of` meets its contract. The loop's invariant: with i bytes filled, it is the copy of the first i bytes of b.
+-- `sum::copy_of` meets its contract. The loop's invariant: with i bytes filled, it is the copy of the first i bytes of b.
 -- The measure is what is left to fill.
 -- Assumes nothing.
 use Prim.Native.Nat.{min, _-_, _≤_}
 use mathlib.Core.Path.{_≡_, _∙_}
 use lib.ListN.{length, take}
 use Rattle.rules.specs.Record.{first}
-use Rattle.record.specs.Copy.{copyOf}
-use Rattle.record.proofs.Laws.{copy-start, copy-next, copy-end}
+use Rattle.sum.specs.Copy.{copyOf}
+use Rattle.sum.proofs.Copies.{copy-start, copy-next, copy-end}
 use native.Mathlib.Omega.{arith}
 use borrow.Author.Needs.{needs}
-use Rattle.record.proofs.copy_of.Statement.{statement}
-use Rattle.record.proofs.copy_of.Tie as tie
+use Rattle.sum.proofs.copy_of.Statement.{statement}
+use Rattle.sum.proofs.copy_of.Tie as tie
 
 abbrev Inv-loop : tie.InvT-loop
 Inv-loop b n c₀ i₀ c i = (i ≤ n) × (c ≡ copyOf first (take i b))

@@ -84,9 +84,10 @@ entries-again c =
     let read : w .4 .result ≡ nameAt t m = w .4 .ensures ∙ name-at t m (omega (arith, s .pre .within)) in
     let found : sameName (nameAt t m) x ≡ true = rw (← read, ← w .5 .ensures) (w .6 .taken) in
     let past : c .if2 .from ≡ m + 1 = w .7 in
-    let rises = rise (s .args .n) t (s .args .p) v (s .pre) in
-    (not-missing (s .args .n) t (s .args .p) v (s .pre) i x (entry-named v i) (w .0 .taken) m low found,
-    rw past (passed-found t (s .args .p) v i mark m rises low found)))
+    let rises = rise (s .args .n) t (s .args .p) v (s .pre) in (
+      not-missing (s .args .n) t (s .args .p) v (s .pre) i x (entry-named v i) (w .0 .taken) m low found,
+      rw past (passed-found t (s .args .p) v i mark m rises low found),
+    ))
     (λ w.
     let kept : c .if2 .from ≡ e .entries .from = w .1 in
     (missing-empty t (s .args .p) v i (w .0 .left), rw kept (passed-next t (s .args .p) v i (e .entries .from) (e .entries .inv .2))))

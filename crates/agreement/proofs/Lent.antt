@@ -9,7 +9,7 @@ use lib.Seq.{take-at}
 use Rattle.rules.specs.declared.Vertex.{Vertex}
 use Rattle.rules.specs.declared.Counts.{Counts}
 use Rattle.rules.specs.Record.{first, vertices, at}
-use Rattle.rules.specs.Decision.{Decision, cell, said}
+use Rattle.rules.specs.Decision.{Decision, said}
 use Rattle.rules.specs.Decide.{boxSetting, highest, decisions, decisionAt}
 use Rattle.rules.specs.Order.{order}
 use Rattle.rules.specs.Refusals.{Told, gives, refused}

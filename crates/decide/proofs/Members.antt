@@ -21,6 +21,7 @@ use Rattle.rules.specs.Authors.{leader}
 use Rattle.rules.specs.Decide.{certifiedIn}
 use Rattle.rules.proofs.Accepted.{Accepted}
 use Rattle.rules.proofs.Support.{references-is, certifies-is}
+use Rattle.rules.proofs.Decide.{CertifiesIn, certified-is, is-certified}
 use Rattle.decide.specs.Range.{startOf}
 use Rattle.decide.specs.Certify.{certifiedAt}
 use Rattle.decide.specs.Work.{historyAt}
@@ -129,21 +130,26 @@ module _ {n : ℕ} {vs : List Vertex} (A : Accepted n vs) (round leader a : ℕ)
   two-up-in q l u = in-round A (round + 2) q l (rw three at u)
 
   pub told-end : below (startOf vs (round + 3) 0) ≡ firstIn vs round leader (certifiedIn n vs h)
-  unfolding toldBelow firstIn certifiedIn
+  unfolding toldBelow firstIn
   told-end =
       first-same _ _ (length vs)
       (λ p l. both-ways _ _
-      (λ e. and-true _ _ (and-left _ _ e) (to p (any-witness _ _ (and-right _ _ e))))
-      (λ e. and-true _ _ (and-left _ _ e) (from p (and-left _ _ e) (any-witness _ _ (and-right _ _ e)))))
+      (λ e. and-true _ _ (and-left _ _ e) (is-certified n vs h (at vs p) (to p (any-witness _ _ (and-right _ _ e)))))
+      (λ e. and-true _ _ (and-left _ _ e) (from p (and-left _ _ e) (certified-is n vs h (at vs p) (and-right _ _ e)))))
     where
       size : length h ≡ suc a
       size = history-size A (by-references A) a la
 
-      to : (p : ℕ) → (q : ℕ) × (q < startOf vs (round + 3) 0) × (tells p q ≡ true) → anyTo (tells p) (length h) ≡ true
-      to p (q, lq, e) = any-intro _ (length h) q (omega (arith, size, history-low A (by-references A) a la q (and-left _ _ e))) e
+      to : (p : ℕ) → (q : ℕ) × (q < startOf vs (round + 3) 0) × (tells p q ≡ true) → CertifiesIn n vs h (at vs p)
+      to p (q, lq, e) =
+          let low = history-low A (by-references A) a la q (and-left _ _ e) in
+          record { who = q; within = omega (arith, size, low); in-history = and-left _ _ e; certifies-it = and-right _ _ e }
 
-      from : (p : ℕ) → slot p ≡ true → (q : ℕ) × (q < length h) × (tells p q ≡ true) → anyTo (tells p) (startOf vs (round + 3) 0) ≡ true
-      from p s (q, lq, e) = any-intro _ _ q (under q (record { within = omega (arith, size); round = two-up p q s e })) e
+      from : (p : ℕ) → slot p ≡ true → CertifiesIn n vs h (at vs p) → anyTo (tells p) (startOf vs (round + 3) 0) ≡ true
+      from p s c =
+          let e : tells p (c .who) ≡ true = and-true _ _ (c .in-history) (c .certifies-it) in
+          let w : c .who < length vs = omega (arith, size, c .within) in
+          any-intro _ _ (c .who) (under (c .who) (record { within = w; round = two-up p (c .who) s e })) e
 
   -- what the bytes tell of a vertex two rounds up, if all from three rounds up are looked at
   pub told-byte : (done : ℕ) (m : List ℕ) → Swept references vs a done m → done ≤ startOf vs (round + 3) 0 → (q : ℕ) → InRound vs (round + 2) q

@@ -16,7 +16,7 @@ use Rattle.rules.specs.declared.LookupAnswer.the-variants as answer
 use Rattle.rules.specs.declared.Outcome.{Outcome}
 use Rattle.rules.specs.declared.Outcome.the-variants as outcome
 use Rattle.rules.specs.Record.{first}
-use Rattle.rules.specs.Refusals.{rowOf, refused, refusalTells, checkTells, lookupTells, outcomeTells}
+use Rattle.rules.specs.Refusals.{rowOf, refused, checkTells, lookupTells, outcomeTells}
 use Rattle.rules.specs.Lookup.{lookupBegin, lookupLength}
 use Rattle.rules.proofs.Refusals.{one-value, number-above, refusal-unique}
 use Rattle.record.specs.Part.{PartOf}

@@ -11,7 +11,7 @@ use Rattle.rules.specs.Record.{Edition, first}
 use Rattle.rules.specs.Refusals.{Told, gives, refused, numberOf, positionOf}
 use Rattle.rules.specs.Lookup.{lookupBegin, lookupLength}
 use Rattle.rules.specs.Decide.{boxSetting}
-use Rattle.rules.specs.Settlement.{Buffers, Settles, settle}
+use Rattle.rules.specs.Settlement.{Buffers, settle}
 use Rattle.exports.specs.declared.Answer.{Answer}
 use Rattle.exports.specs.declared.Part.{Part}
 use Rattle.exports.specs.declared.SettledNumbers.{SettledNumbers}

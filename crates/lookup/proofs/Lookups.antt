@@ -7,7 +7,7 @@ use native.Mathlib.Omega.{arith}
 use borrow.Author.Tests.{leb-false, lt-leb, le-leb}
 use Rattle.rules.specs.declared.Name.{Name}
 use Rattle.rules.specs.Record.{first, records, vertices, find}
-use Rattle.rules.specs.Refusals.{Told, gives, refused, refusal, passed, _when_, _then_}
+use Rattle.rules.specs.Refusals.{gives, refused, refusal, passed, _when_, _then_}
 use Rattle.rules.specs.Check.{check}
 use Rattle.rules.specs.Lookup.{lookupCheck, lookupPlace, lookupBegin, lookupLength}
 use Rattle.rules.proofs.Refusals.{when-passed, when-yes, when-no, then-passed, then-both, gives-refused}

@@ -2,8 +2,7 @@
 -- the place in it and the bytes are equal. `Post` is a call's promise as it stands in its contract, so a weaker one would not pass here.
 -- No call changes what it is lent.
 -- Assumes nothing.
-use mathlib.Core.Path.{_≡_, refl, sym, ap, _∙_}
-use Rattle.rules.specs.Refusals.{gives, refusalTells}
+use mathlib.Core.Path.{_≡_, sym, ap, _∙_}
 use Rattle.rules.proofs.Only.{Only}
 use Rattle.rules.proofs.Refusals.{refusal-unique, gives-refusal}
 use Rattle.rules.proofs.Refusals as refusals

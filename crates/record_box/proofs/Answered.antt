@@ -8,10 +8,10 @@ use borrow.Author.Tests.{lt-ltb, le-ltb}
 use Rattle.rules.specs.declared.Settlement.{Settlement}
 use Rattle.rules.specs.declared.Refusal.the-variants.{Input}
 use Rattle.rules.specs.declared.Outcome.the-variants.{Refused}
-use Rattle.rules.specs.Refusals.{refusal, outcomeTells, _when_, _then_}
+use Rattle.rules.specs.Refusals.{refusal, _when_, _then_}
 use Rattle.rules.specs.Record.{first}
 use Rattle.rules.specs.Decide.{boxSetting}
-use Rattle.rules.specs.Settlement.{Buffers, Settles, settleIf, settle}
+use Rattle.rules.specs.Settlement.{Buffers, settleIf, settle}
 use Rattle.rules.specs.Program.{holds}
 use Rattle.settlement.specs.Promise.{SettlesTo}
 use Rattle.record_box.specs.Answer.{authorsIn, tableIn, checked, answered, Answers}

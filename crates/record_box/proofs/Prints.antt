@@ -6,7 +6,7 @@ use mathlib.Core.Bool.{true, false}
 use mathlib.Core.List.{List}
 use native.Mathlib.Omega.{arith}
 use lib.Dec.{ltb}
-use lib.ListN.{length, drop, length-drop}
+use lib.ListN.{length, length-drop}
 use borrow.Author.Tests.{ltb-false}
 use Rattle.folds.proofs.Tests.{by-test}
 use Rattle.rules.specs.Refusals.{Told, gives, refused, refusal, _when_, _then_}

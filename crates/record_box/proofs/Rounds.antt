@@ -2,7 +2,7 @@
 -- Assumes nothing.
 use Prim.Native.Nat.{ℕ, zero, suc, pred, _+_, _≤_, _<_}
 use mathlib.Core.Path.{_≡_, ap}
-use mathlib.Core.Bool.{true, false}
+use mathlib.Core.Bool.{false}
 use mathlib.Core.List.{List}
 use native.Mathlib.Omega.{arith}
 use native.Mathlib.Nat.{not-suc-le-zero}
@@ -12,7 +12,7 @@ use borrow.Author.Tests.{eqb-false, ltb-true, ltb-false, le-ltb}
 use Rattle.folds.proofs.Tests.{by-test, not-true, or-false}
 use Rattle.folds.proofs.Laws.{count-witness}
 use Rattle.rules.specs.declared.Vertex.{Vertex}
-use Rattle.rules.specs.Record.{first, records, vertices, noVertex, at, entryName, refers, find}
+use Rattle.rules.specs.Record.{first, vertices, noVertex, at, entryName, refers, find}
 use Rattle.rules.specs.Decide.{boxSetting, highest}
 use Rattle.rules.specs.Settlement.{Buffers, tooShort}
 use Rattle.rules.proofs.Records.{vertices-length}

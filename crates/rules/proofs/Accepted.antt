@@ -4,23 +4,22 @@
 use Prim.Native.Nat.{ℕ, zero, suc, pred, _+_, _-_, _*_, _%_, _≤_, _<_}
 use mathlib.Core.Path.{_≡_, refl, sym, ap, _∙_, subst}
 use mathlib.Core.Logic.{_⊎_, ⊎-elim, _≢_}
-use mathlib.Core.Bool.{true, false, not}
+use mathlib.Core.Bool.{true, false}
 use mathlib.Core.List.{List}
 use native.Mathlib.Omega.{arith}
 use native.Mathlib.Nat.{eq-or-lt-of-le, le-of-suc-le-suc, not-suc-le-zero}
 use lib.Dec.{leb, ltb, eqb}
-use lib.ListN.{length, getD, List·getD-eq-default}
+use lib.ListN.{length, List·getD-eq-default}
 use borrow.Author.Tests.{eqb-true, eqb-false, eq-eqb, ne-eqb, leb-true, leb-false, ltb-true, ltb-false, lt-ltb}
 use Rattle.folds.specs.Folds.{_and_, _or_, countTo, anyTo}
 use Rattle.folds.specs.Many.{Many}
 use Rattle.folds.proofs.Tests.{by-test, not-both, failed, passed, and-left, and-right, and-true, and-false, or-neither, not-true, not-false, is-not}
 use Rattle.folds.proofs.Laws.{first-unique, any-none, count-cut}
 use Rattle.folds.proofs.Quorum.{some-of}
-use Rattle.rules.specs.declared.Name.{Name}
 use Rattle.rules.specs.declared.Vertex.{Vertex}
 use Rattle.rules.specs.Refusals.{passed as passes}
 use Rattle.rules.specs.Authors.{isCount, faults, quorum}
-use Rattle.rules.specs.Record.{Edition, recordAt, decode, records, vertices, noVertex, at, entry, refers, entryName, nameOf, below, find, vertexOf}
+use Rattle.rules.specs.Record.{Edition, recordAt, records, vertices, noVertex, at, entry, refers, entryName, nameOf, find, vertexOf}
 use Rattle.rules.specs.Check.{fieldsWrong, notAbove, entriesWrong, notEarlier, checkRecord, checkTable, check}
 use Rattle.rules.specs.Decide.{highest}
 use Rattle.rules.proofs.Names.{same-name, name-same, Below, below-is, below-trans, below-irrefl}

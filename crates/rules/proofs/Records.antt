@@ -3,8 +3,7 @@
 use Prim.Native.Nat.{ℕ, _+_, _*_, _<_}
 use mathlib.Core.Path.{_≡_}
 use mathlib.Core.List.{List}
-use lib.ListN.{length, getD}
-use Rattle.folds.specs.Folds.{tabulate}
+use lib.ListN.{length}
 use Rattle.folds.proofs.Laws.{First, first-is}
 use Rattle.folds.proofs.Lists.{length-tabulate, getD-tabulate}
 use Rattle.rules.specs.declared.Name.{Name}

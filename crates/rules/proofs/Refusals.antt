@@ -1,7 +1,7 @@
 -- How checks follow one another, and that what an answer tells fixes the answer.
 -- Assumes nothing.
 use Prim.Native.Nat.{ℕ, zero, suc, _+_, _<_}
-use mathlib.Core.Path.{_≡_, refl, sym, ap, ap₂, _∙_}
+use mathlib.Core.Path.{_≡_, refl, sym, ap, _∙_}
 use mathlib.Core.Bool.{Bool, true, false, false≢true, true≢false}
 use mathlib.Core.List.{List, [], _∷_}
 use native.Mathlib.Nat.{le-refl, le-step, not-suc-le-zero, le-of-suc-le-suc, eq-or-lt-of-le}
@@ -17,7 +17,7 @@ use Rattle.rules.specs.declared.LookupAnswer.{LookupAnswer}
 use Rattle.rules.specs.declared.LookupAnswer.the-variants as answer
 use Rattle.rules.specs.declared.Outcome.{Outcome}
 use Rattle.rules.specs.declared.Outcome.the-variants as outcome
-use Rattle.rules.specs.Refusals.{Told, gives, refused, passed, refusal, numberOf, positionOf, rowOf, refusalTells, checkTells, lookupTells, outcomeTells, _when_, _then_, eachTo}
+use Rattle.rules.specs.Refusals.{Told, gives, refused, passed, numberOf, positionOf, rowOf, refusalTells, checkTells, lookupTells, outcomeTells, _when_, _then_, eachTo}
 
 pub refused-gives : {A : Type 0} {k : ℕ} {vs : List ℕ} {a : A} {c : Told A} → c ≡ refused k vs → c ≡ gives a → ⊥
 refused-gives p q = let z : _≡_ {A = ℕ} 0 1 = cc in omega arith

@@ -1,15 +1,15 @@
 -- What the tests of support say, each once: a reference, a blank vertex, a certificate, and "at least 2f+1 different authors each have a vertex such that ..".
 -- Assumes nothing.
-use Prim.Native.Nat.{ℕ, suc, pred, _+_, _≤_, _<_}
-use mathlib.Core.Path.{_≡_, refl, sym, ap, _∙_, subst}
+use Prim.Native.Nat.{ℕ, pred, _+_, _≤_, _<_}
+use mathlib.Core.Path.{_≡_, refl, sym, _∙_, subst}
 use mathlib.Core.Logic.{_≢_}
-use mathlib.Core.Bool.{Bool, true, false, not}
+use mathlib.Core.Bool.{Bool, true}
 use mathlib.Core.List.{List}
 use native.Mathlib.Omega.{arith}
-use lib.Dec.{leb, eqb}
+use lib.Dec.{eqb}
 use lib.ListN.{length}
 use borrow.Author.Tests.{eqb-true, eqb-false, eq-eqb, ne-eqb, leb-true, le-leb}
-use Rattle.folds.specs.Folds.{_and_, countTo, anyTo}
+use Rattle.folds.specs.Folds.{_and_, anyTo}
 use Rattle.folds.specs.Many.{Many}
 use Rattle.folds.proofs.Tests.{and-left, and-right, and-true, not-true, is-not}
 use Rattle.folds.proofs.Laws.{any-witness, any-intro}
@@ -17,7 +17,7 @@ use Rattle.folds.proofs.Quorum.{many-map, many-test, many-count}
 use Rattle.rules.specs.declared.Name.{Name}
 use Rattle.rules.specs.declared.Vertex.{Vertex}
 use Rattle.rules.specs.Authors.{quorum}
-use Rattle.rules.specs.Record.{at, entry, refers, entryName, find, vertexOf}
+use Rattle.rules.specs.Record.{at, entry, entryName, find, vertexOf}
 use Rattle.rules.specs.Support.{references, supports, blank, certifies, authorsWith, directCommit, directSkip}
 use Rattle.rules.proofs.Names.{name-path}
 use Rattle.rules.proofs.Accepted.{Accepted, earlier}

@@ -1,12 +1,11 @@
 -- Document 01, "Refusal numbers and their order": the rows 1 to 9, each with a test of its own, and their order.
 -- Assumes nothing.
-use Prim.Native.Nat.{ℕ, zero, pred, _%_}
+use Prim.Native.Nat.{ℕ, pred, _%_}
 use mathlib.Core.Bool.{Bool, not}
 use mathlib.Core.List.{List}
 use lib.Dec.{leb, ltb, eqb}
 use lib.ListN.{length}
 use Rattle.folds.specs.Folds.{_and_, _or_, countTo, anyTo}
-use Rattle.rules.specs.declared.Name.{Name}
 use Rattle.rules.specs.declared.Vertex.{Vertex}
 use Rattle.rules.specs.Authors.{isCount, quorum}
 use Rattle.rules.specs.Record.{Edition, recordAt, sumOf, records, vertices, at, nameOf, refers, entryName, below, find}

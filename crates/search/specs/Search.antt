@@ -6,7 +6,7 @@ use mathlib.Core.List.{List}
 use lib.Dec.{ltb}
 use Rattle.folds.specs.Folds.{_and_}
 use Rattle.rules.specs.declared.Name.{Name}
-use Rattle.rules.specs.Record.{first, recordAt, decode, records, nameOf, sameName, below}
+use Rattle.rules.specs.Record.{first, recordAt, decode, nameOf, sameName, below}
 
 -- The halving of lo .. hi by a test: on past the middle where the test holds there, and else down to it. `k` bounds the turns.
 unfoldable pub halves : (ℕ → Bool) → ℕ → ℕ → ℕ → ℕ

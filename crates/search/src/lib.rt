@@ -4,7 +4,7 @@ ghost use mathlib.Core.Path.{_≡_};
 ghost use Prim.Native.Nat.{_≤_, min};
 ghost use Rattle.rules.specs.Record.{first, records, vertices};
 ghost use Rattle.rules.specs.Decide.{highest};
-ghost use Rattle.search.specs.Search.{nameAt, placeOf, findBelow};
+ghost use Rattle.search.specs.Search.{placeOf, findBelow};
 use names::below;
 use names::lowered;
 use names::raised;

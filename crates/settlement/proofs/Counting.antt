@@ -16,10 +16,9 @@ use Rattle.folds.proofs.Laws.{first-by, any-none, any-witness, any-intro, count
 use Rattle.folds.proofs.Lists.{getD-tabulate, tabulate-same}
 use Rattle.rules.specs.declared.Name.{Name}
 use Rattle.rules.specs.declared.Vertex.{Vertex}
-use Rattle.rules.specs.Record.{first, vertices, at, nameOf, below}
+use Rattle.rules.specs.Record.{at, nameOf, below}
 use Rattle.rules.specs.Settlement.{equivocates, equivocators}
 use Rattle.rules.proofs.Names.{Below, is-below, below-round, below-mark}
-use Rattle.rules.proofs.Records.{vertices-length}
 use Rattle.rules.proofs.Accepted.{Accepted, author-low, rising}
 use Rattle.folds.proofs.Over.{or-last, set-tabulate}
 use Rattle.settlement.specs.Twins.{side}

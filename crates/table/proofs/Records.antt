@@ -12,7 +12,7 @@ use Rattle.rules.specs.declared.Vertex.{Vertex}
 use Rattle.rules.specs.Authors.{isCount}
 use Rattle.rules.specs.Record.{first, recordAt, decode, sumOf, records, vertices, at}
 use Rattle.rules.specs.Refusals.{Told, refusal, passed, _when_, _then_, eachTo}
-use Rattle.rules.specs.Check.{sumDiffers, fieldsWrong, notAbove, entriesWrong, notEarlier, roundAbove, checkRecord}
+use Rattle.rules.specs.Check.{sumDiffers, fieldsWrong, notEarlier, roundAbove, checkRecord}
 use Rattle.rules.proofs.Records.{vertices-at}
 use Rattle.rules.proofs.Refusals.{when-passed, then-both, then-assoc, each-passed}
 use Rattle.rules.proofs.Accepted.{record-passed}

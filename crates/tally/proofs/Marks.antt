@@ -1,7 +1,7 @@
 -- The mark that enough of the references back: found, none, and what that means.
 -- Assumes nothing.
 use Prim.Native.Nat.{ℕ, _-_, _≤_, _<_}
-use mathlib.Core.Path.{_≡_, refl, sym, _∙_, subst}
+use mathlib.Core.Path.{_≡_, sym, _∙_, subst}
 use mathlib.Core.Logic.{_≢_}
 use mathlib.Core.Bool.{Bool, true, false, not}
 use mathlib.Core.List.{List}
@@ -13,8 +13,6 @@ use borrow.Author.Tests.{eqb-false, leb-true, ltb-true, ltb-false, ne-eqb, le-le
 use Rattle.folds.specs.Folds.{_and_, firstTo}
 use Rattle.folds.proofs.Tests.{by-test, not-both, failed, and-left, and-right, and-true, not-true, is-not}
 use Rattle.folds.proofs.Laws.{First, first-is, first-by}
-use Rattle.rules.specs.Record.{first, at}
-use Rattle.rules.specs.Support.{references}
 use Rattle.tally.specs.Marks.{countMark, enoughOf}
 
 -- the mark at i is one, and at least q are that mark

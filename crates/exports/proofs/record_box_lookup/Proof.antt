@@ -1,7 +1,6 @@
 -- `exports::record_box_lookup` meets its contract: where the record stands, or the first zero bytes.
 -- Assumes nothing.
 use mathlib.Core.Path.{refl, sym, ap, _∙_}
-use native.Mathlib.Omega.{arith}
 use Rattle.rules.specs.Record.{named}
 use Rattle.lookup.specs.Standing.{standingTells}
 use Rattle.lookup.proofs.Lookups.{within, begin-found, length-found, begin-refused, length-refused}

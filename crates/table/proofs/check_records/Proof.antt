@@ -3,7 +3,7 @@
 -- Assumes nothing.
 use Prim.Native.Nat.{_-_, _≤_}
 use mathlib.Core.Path.{_≡_, sym, ap, _∙_}
-use Rattle.rules.specs.Refusals.{passed, refused, checkTells, eachTo}
+use Rattle.rules.specs.Refusals.{passed, checkTells, eachTo}
 use Rattle.rules.specs.Record.{first, records}
 use Rattle.rules.proofs.Refusals.{then-passed, goes-on, each-start, each-next, each-refused}
 use Rattle.table.proofs.Records.{checkAt, reached}

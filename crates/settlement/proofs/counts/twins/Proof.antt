@@ -1,6 +1,5 @@
 -- `settlement::counts::twins` meets its contract.
 -- Assumes nothing.
-use Prim.Native.Nat.{_+_}
 use native.Mathlib.Omega.{arith}
 use Rattle.rules.proofs.Records.{vertices-length}
 use Rattle.rules.specs.Record.{first, vertices}

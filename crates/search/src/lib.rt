@@ -21,10 +21,15 @@ fn place_of(table: &[u8], k: usize, x: Name) -> usize
     requires { ⌜ k ≤ records first (now table) ⌝ }
     ensures { λ r. ⌜ r ≡ placeOf (now (table .entry)) k x ⌝ }
 {
+    let all = records_of(table);
     let mut lo: usize = 0;
     let mut hi: usize = k;
     while lo < hi {
         let m = lo + (hi - lo) / 2;
+        // Never so, since m is below hi. Said here, it spares each reading of a name its own test.
+        if all <= m {
+            return lo;
+        }
         let held = below(name_at(table, m), x);
         lo = raised(held, lo, m);
         hi = lowered(held, hi, m);

@@ -99,6 +99,7 @@ fn not_earlier(n: u8, table: &[u8], p: usize, v: Vertex) -> bool
 {
     let refs = v.refs;
     let k = n as usize;
+    let all = records_of(table);
     let mut i: usize = 0;
     let mut from: usize = 0;
     let missing = 'entries: loop {
@@ -119,6 +120,10 @@ fn not_earlier(n: u8, table: &[u8], p: usize, v: Vertex) -> bool
                     break 'entries true;
                 }
                 let m = lo + (hi - lo) / 2;
+                // Never so, since m is below p. Said here, it spares each reading of a name its own test.
+                if all <= m {
+                    break 'entries true;
+                }
                 let y = name_at(table, m);
                 if same(y, x) {
                     break m;

@@ -20,17 +20,17 @@ abbrev lower : List ℕ → Name → ℕ → Bool
 lower t x p = below (nameAt t p) x
 
 abbrev Inv-loop : tie.InvT-loop
-Inv-loop table k x lo₀ hi₀ lo hi = (lo ≤ hi) × (hi ≤ k) × (placeOf table k x ≡ halves (lower table x) (hi - lo) lo hi)
+Inv-loop table k x all lo₀ hi₀ lo hi = (lo ≤ hi) × (hi ≤ k) × (placeOf table k x ≡ halves (lower table x) (hi - lo) lo hi)
 
 abbrev μ-loop : tie.MeasureT-loop
-μ-loop table k x lo₀ hi₀ lo hi = hi - lo
+μ-loop table k x all lo₀ hi₀ lo hi = hi - lo
 
 loop-holds : tie.Need-loop-holds Inv-loop μ-loop
-loop-holds c = (omega arith, omega arith, place-start (c .before .args .table .now) (c .before .args .k) (c .before .args .x))
+loop-holds c = let a = c .before .before .args in (omega arith, omega arith, place-start (a .table .now) (a .k) (a .x))
 
 loop-less : tie.Need-loop-less Inv-loop μ-loop
 loop-less c =
-    let l = c .before .before .before .before .before in
+    let l = c .before .before .before .before .before .before in
     let held = c .before .before .below .result in
     let m = l .loop .lo + (l .loop .hi - l .loop .lo) / 2 in
     let up = raised-is held (l .loop .lo) m _ (c .before .raised .ensures) (omega arith) in
@@ -38,8 +38,8 @@ loop-less c =
 
 loop-again : tie.Need-loop-again Inv-loop μ-loop
 loop-again c =
-    let l = c .before .before .before .before .before in
-    let a = l .before .before .args in
+    let l = c .before .before .before .before .before .before in
+    let a = l .before .before .before .args in
     let held = c .before .before .below .result in
     let m = l .loop .lo + (l .loop .hi - l .loop .lo) / 2 in
     let up = raised-is held (l .loop .lo) m _ (c .before .raised .ensures) (omega arith) in
@@ -50,14 +50,17 @@ loop-again c =
     halves-turn held (l .loop .lo) (l .loop .hi) _ _ _ refl (omega arith) up (c .lowered .ensures) (lower (a .table .now) (a .x)) e in
     (h .ordered, omega (arith, h .within), l .loop .inv .2 ∙ turn)
 
-returns : tie.Need-returns Inv-loop μ-loop
-returns c =
+returns-2 : tie.Need-returns-2 Inv-loop μ-loop
+returns-2 c =
     let l = c .before in
-    let a = l .before .before .args in
+    let a = l .before .before .before .args in
     sym (l .loop .inv .2 ∙ halves-end (lower (a .table .now) (a .x)) _ (l .loop .lo) (l .loop .hi) (omega arith))
+
+returns : tie.Need-returns Inv-loop μ-loop
+returns c = absurd (omega arith)
 
 pub place-of-spec : {M : Type 1} → statement M
 place-of-spec =
     tie.close
-    (tie.spec Inv-loop μ-loop loop-holds (λ c. search needs) (λ c. search needs) (λ c κs. search needs) (λ c κs. search needs) (λ c κs. search needs)
-    (λ c κs. search needs) loop-less loop-again returns)
+    (tie.spec Inv-loop μ-loop (λ c κs. search needs) loop-holds (λ c. search needs) (λ c. search needs) returns (λ c κs. search needs) (λ c κs. search needs) (λ c κs. search needs)
+    (λ c κs. search needs) loop-less loop-again returns-2)

@@ -32,20 +32,20 @@ rise n t p v R i j l h =
 -- ---- where the search for an entry may begin
 
 -- The records before `from` stand below whatever an entry from i on can name.
-pub record Passed (t : List ℕ) (p : ℕ) (v : Vertex) (i from : ℕ) : Type 0 where
+pub record AllLower (t : List ℕ) (p : ℕ) (v : Vertex) (i from : ℕ) : Type 0 where
   pub within : from ≤ p
   pub lower : (j : ℕ) → j < from → (a mark : ℕ) → i ≤ a → Below (nameAt t j) (named (v .round - 1) a mark)
 
-pub passed-start : (t : List ℕ) (p : ℕ) (v : Vertex) → Passed t p v 0 0
-passed-start t p v = record { within = zero-le; lower = λ j l. absurd (not-suc-le-zero l) }
+pub lower-start : (t : List ℕ) (p : ℕ) (v : Vertex) → AllLower t p v 0 0
+lower-start t p v = record { within = zero-le; lower = λ j l. absurd (not-suc-le-zero l) }
 
-pub passed-next : (t : List ℕ) (p : ℕ) (v : Vertex) (i from : ℕ) → Passed t p v i from → Passed t p v (i + 1) from
-passed-next t p v i from P = record { within = P .within; lower = λ j l a mark h. P .lower j l a mark (omega arith) }
+pub lower-next : (t : List ℕ) (p : ℕ) (v : Vertex) (i from : ℕ) → AllLower t p v i from → AllLower t p v (i + 1) from
+lower-next t p v i from P = record { within = P .within; lower = λ j l a mark h. P .lower j l a mark (omega arith) }
 
 -- entry i stands at m
-pub passed-found : (t : List ℕ) (p : ℕ) (v : Vertex) (i mark m : ℕ) → Rise t p → m < p → sameName (nameAt t m) (named (v .round - 1) i mark) ≡ true
-    → Passed t p v (i + 1) (m + 1)
-passed-found t p v i mark m r h e = record {
+pub lower-found : (t : List ℕ) (p : ℕ) (v : Vertex) (i mark m : ℕ) → Rise t p → m < p → sameName (nameAt t m) (named (v .round - 1) i mark) ≡ true
+    → AllLower t p v (i + 1) (m + 1)
+lower-found t p v i mark m r h e = record {
   within = omega arith;
   lower = λ j l a mark′ k.
       let next : Below (nameAt t m) (named (v .round - 1) a mark′) = rw (same-name _ _ e) (named-below (v .round - 1) i a mark mark′ (omega arith)) in

@@ -50,17 +50,18 @@ loop-again c =
     halves-turn held (l .loop .lo) (l .loop .hi) _ _ _ refl (omega arith) up (c .lowered .ensures) (lower (a .table .now) (a .x)) e in
     (h .ordered, omega (arith, h .within), l .loop .inv .2 ∙ turn)
 
+-- the middle is a record
+returns : tie.Need-returns Inv-loop μ-loop
+returns c = absurd (omega arith)
+
 returns-2 : tie.Need-returns-2 Inv-loop μ-loop
 returns-2 c =
     let l = c .before in
     let a = l .before .before .before .args in
     sym (l .loop .inv .2 ∙ halves-end (lower (a .table .now) (a .x)) _ (l .loop .lo) (l .loop .hi) (omega arith))
 
-returns : tie.Need-returns Inv-loop μ-loop
-returns c = absurd (omega arith)
-
 pub place-of-spec : {M : Type 1} → statement M
 place-of-spec =
     tie.close
-    (tie.spec Inv-loop μ-loop (λ c κs. search needs) loop-holds (λ c. search needs) (λ c. search needs) returns (λ c κs. search needs) (λ c κs. search needs) (λ c κs. search needs)
-    (λ c κs. search needs) loop-less loop-again returns-2)
+    (tie.spec Inv-loop μ-loop (λ c κs. search needs) loop-holds (λ c. search needs) (λ c. search needs) returns (λ c κs. search needs)
+    (λ c κs. search needs) (λ c κs. search needs) (λ c κs. search needs) loop-less loop-again returns-2)

@@ -15,7 +15,7 @@ use Rattle.search.specs.Search.{nameAt}
 use Rattle.search.proofs.Names.{name-at}
 use Rattle.search.proofs.Search.{raised-is, halved}
 use Rattle.search.proofs.Rise.{Searched, searched-from, searched-turn}
-use Rattle.table.proofs.Earlier.{rise, Passed, passed-start, passed-next, passed-found, missing, missing-empty, none-missing, some-missing, not-missing}
+use Rattle.table.proofs.Earlier.{rise, AllLower, lower-start, lower-next, lower-found, missing, missing-empty, none-missing, some-missing, not-missing}
 use native.Mathlib.Omega.{arith}
 use native.Mathlib.Nat.{le-refl}
 use borrow.Author.Needs.{needs}
@@ -29,13 +29,13 @@ abbrev μ-loop : tie.MeasureT-loop
 μ-loop n table p v refs k all i from mark x lo₀ hi₀ lo hi = hi - lo
 
 abbrev Inv-entries : tie.InvT-entries
-Inv-entries n table p v refs k all i₀ from₀ i from = (i ≤ k) × (anyTo (missing table p v) i ≡ false) × Passed table p v i from
+Inv-entries n table p v refs k all i₀ from₀ i from = (i ≤ k) × (anyTo (missing table p v) i ≡ false) × AllLower table p v i from
 
 abbrev μ-entries : tie.MeasureT-entries
 μ-entries n table p v refs k all i₀ from₀ i from = k - i
 
 entries-holds : tie.Need-entries-holds Inv-loop μ-loop Inv-entries μ-entries
-entries-holds c = (omega arith, any-start _, passed-start _ _ _)
+entries-holds c = (omega arith, any-start _, lower-start _ _ _)
 
 loop-holds : tie.Need-loop-holds Inv-loop μ-loop Inv-entries μ-entries
 loop-holds c =
@@ -74,7 +74,7 @@ entries-again c =
     let t = s .args .table .now in
     let i = e .entries .i in
     let v = s .args .v in
-    let one : (missing t (s .args .p) v i ≡ false) × Passed t (s .args .p) v (i + 1) (c .if2 .from) =
+    let one : (missing t (s .args .p) v i ≡ false) × AllLower t (s .args .p) v (i + 1) (c .if2 .from) =
     ⊎-elim
     (λ w.
     let mark = entry v i in
@@ -86,11 +86,11 @@ entries-again c =
     let past : c .if2 .from ≡ m + 1 = w .8 in
     let rises = rise (s .args .n) t (s .args .p) v (s .pre) in (
       not-missing (s .args .n) t (s .args .p) v (s .pre) i x (entry-named v i) (w .0 .taken) m low found,
-      rw past (passed-found t (s .args .p) v i mark m rises low found),
+      rw past (lower-found t (s .args .p) v i mark m rises low found),
     ))
     (λ w.
     let kept : c .if2 .from ≡ e .entries .from = w .1 in
-    (missing-empty t (s .args .p) v i (w .0 .left), rw kept (passed-next t (s .args .p) v i (e .entries .from) (e .entries .inv .2))))
+    (missing-empty t (s .args .p) v i (w .0 .left), rw kept (lower-next t (s .args .p) v i (e .entries .from) (e .entries .inv .2))))
     (c .if2 .came)
     in
     (omega arith, any-next (missing t (s .args .p) v) i (one .0) (e .entries .inv .1), one .1)
@@ -113,12 +113,14 @@ returns-2 c =
     sym (some-missing (s .args .n) (s .args .table .now) (s .args .p) v (s .pre) i x (entry-named v i) (l .before .before .if2 .taken) (omega arith)
     (l .loop .lo) (l .loop .hi) (omega arith) (l .loop .inv))
 
+-- the middle is a record
 returns-3 : tie.Need-returns-3 Inv-loop μ-loop Inv-entries μ-entries
 returns-3 c = absurd (omega arith)
 
 pub not-earlier-spec : {M : Type 1} → statement M
 not-earlier-spec =
     tie.close
-    (tie.spec Inv-loop μ-loop Inv-entries μ-entries (λ c κs. search needs) entries-holds (λ c. search needs) (λ c. search needs) (λ c. search needs) (λ c. search needs)
-    loop-holds (λ c. search needs) (λ c. search needs) (λ c κs. search needs) (λ c κs. search needs) (λ c κs. search needs) (λ c κs. search needs)
-    (λ c κs. search needs) loop-less loop-again (λ c. search needs) (λ c. search needs) (λ c. search needs) entries-again returns returns-2 returns-3)
+    (tie.spec Inv-loop μ-loop Inv-entries μ-entries (λ c κs. search needs) entries-holds (λ c. search needs) (λ c. search needs) (λ c. search needs)
+    (λ c. search needs) loop-holds (λ c. search needs) (λ c. search needs) (λ c κs. search needs) (λ c κs. search needs) (λ c κs. search needs)
+    (λ c κs. search needs) (λ c κs. search needs) loop-less loop-again (λ c. search needs) (λ c. search needs) (λ c. search needs) entries-again
+    returns returns-2 returns-3)

@@ -1,2 +1,2 @@
-pub mod Copies
+pub mod Covered
 pub mod Unique

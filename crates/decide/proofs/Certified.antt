@@ -87,10 +87,6 @@ module _ {n : ℕ} {vs : List Vertex} (A : Accepted n vs) where
     backs-past : (i : ℕ) → n ≤ i → i < 31 → getD marks i 0 ≡ 0
     backs-past i l h = backs-low i h ∙ past-none i l
 
-    -- those of the n authors are all
-    pub backs-few : (i : ℕ) → cond (ltb i n) (backed i) 0 ≡ backed i
-    backs-few i = by-test (ltb i n) (λ e. rw e) (λ e. rw e (sym (past-none i (ltb-false i n e))))
-
     -- how many back a mark
     pub backs-count : (mark : ℕ) → mark ≢ 0 → countMark marks mark ≡ countTo (λ i. eqb (backed i) mark) n
     unfolding countMark

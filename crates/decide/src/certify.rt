@@ -25,19 +25,18 @@ fn back(table: &[u8], q: usize, count: usize, leader: u8) -> u32
     0
 }
 
-// The marks that the references of the vertex at w back, one for each author. They are among the first `count` records.
+// The marks that the references of the vertex at w back, one for each author. They are among the first `count` records. One array serves for
+// both: each place gives way to the mark that stands there. A place that is `count` backs none, as that of an author from n on.
 fn backing(n: u8, table: &[u8], w: usize, count: usize, leader: u8) -> [u32; 31]
     requires { ⌜ Sound first n (now table) ⌝ }
     requires { ⌜ w < recordsOf (now table) ⌝ }
     requires { ⌜ HoldsAll (verticesOf (now table)) w count ⌝ }
     ensures { λ r. ⌜ r ≡ backs (verticesOf (now (table .entry))) w leader ⌝ }
 {
-    let places = places_of(n, table, w, count as u32);
-    let k = n as usize;
-    let mut marks = [0u32; 31];
+    let mut marks = places_of(n, table, w, count as u32);
     let mut i: usize = 0;
-    while i < k {
-        marks[i] = back(table, places[i] as usize, count, leader);
+    while i < 31 {
+        marks[i] = back(table, marks[i] as usize, count, leader);
         i += 1;
     }
     marks

@@ -7,6 +7,7 @@ use mathlib.Core.Logic.{⊎-elim, _≢_}
 use mathlib.Core.Bool.{cond}
 use mathlib.Core.List.{List}
 use native.Mathlib.Omega.{arith}
+use lib.ListN.{length-replicate, getD-replicate}
 use borrow.Author.Tests.{eq-eqb, ne-eqb}
 use Rattle.rules.specs.declared.Name.{Name}
 use Rattle.rules.specs.Record.{first, records, recordAt, decode, entry, nameOf, named}
@@ -22,13 +23,15 @@ abbrev place : List ℕ → (p k round : ℕ) → ℕ → ℕ
 place t p k round i = placeAmong t k (named round i (entry (decode first (recordAt first t p)) i))
 
 abbrev Inv-loop : tie.InvT-loop
-Inv-loop n table p count b round k places₀ i₀ places i = (i ≤ k) × Filled (place table p count round) count i places
+Inv-loop n table p count b round k places₀ i₀ places i = (i ≤ k) × Filled (place table p count round) (λ j. count) i places
 
 abbrev μ-loop : tie.MeasureT-loop
 μ-loop n table p count b round k places₀ i₀ places i = k - i
 
 loop-holds : tie.Need-loop-holds Inv-loop μ-loop
-loop-holds c = (omega arith, filled-start _ _)
+loop-holds c =
+    let count = c .before .before .before .before .before .args .count in
+    (omega arith, filled-start _ _ _ (length-replicate {A = ℕ} 31 count) (λ j l. getD-replicate 31 j count 0 l))
 
 cast-places : tie.Need-cast-places Inv-loop μ-loop
 cast-places c =
@@ -76,7 +79,7 @@ returns c =
     let round : r .round-before .result ≡ pred (decode first (recordAt first t (a .p)) .round) =
     r .round-before .ensures ∙ ap (λ (y : Name). pred (y .round)) name in
     rw (← round)
-    (filled-end (place t (a .p) (a .count) (r .round-before .result)) _ (a .count) (l .loop .i) (l .loop .places)
+    (filled-end (place t (a .p) (a .count) (r .round-before .result)) (λ j. a .count) _ (l .loop .i) (l .loop .places)
     (λ j h. ap (λ y. cond y (place t (a .p) (a .count) (r .round-before .result) j) (a .count)) (first-few (a .n) (l .loop .i) j e h)) (l .loop .inv .1))
 
 pub places-of-spec : {M : Type 1} → statement M

@@ -270,8 +270,11 @@ fn lengths() -> Vec<Vector> {
 
 /// 4.
 fn sums() -> Vec<Vector> {
-    let mut padded = p2().table();
-    padded[MIDDLE * RECORD_BYTES + 135] = 1;
+    let padded = |position: usize| {
+        let mut table = p2().table();
+        table[position * RECORD_BYTES + 135] = 1;
+        table
+    };
     let carried = Vertex {
         batches: 65_535,
         ..vertex(1, 2, 65_535, &[])
@@ -281,7 +284,11 @@ fn sums() -> Vec<Vector> {
         with_sum_off("sum_wrong_middle", MIDDLE, 1),
         with_sum_off("sum_wrong_last", LAST, 1),
         with_sum_off("sum_high_byte_wrong", MIDDLE, 256),
-        checked("sum_leaves_padding_out", 4, padded),
+        checked("sum_leaves_padding_out_first", 4, padded(0)),
+        checked("sum_leaves_padding_out", 4, padded(MIDDLE)),
+        checked("sum_leaves_padding_out_last", 4, padded(LAST)),
+        // A padding of 1 was summed and then zeroed.
+        with_sum_off("padding_summed_then_zeroed", LAST, 256),
         checked("sum_drops_carries_passes", 4, bytes_of(&[carried])),
     ]
 }

@@ -7,12 +7,12 @@
 //     extern "C" {}
 
 /// The version of the header that this file belongs to.
-pub const VERSION: u32 = 1;
+pub const VERSION: u32 = 2;
 
 /// A record's size in bytes, the most records of a table, and what suffices to settle every table.
 pub const RECORD_BYTES: usize = 138;
 pub const MOST_RECORDS: usize = 4096;
-pub const ENOUGH_CELLS: usize = 1400;
+pub const ENOUGH_CELLS: usize = 1366;
 pub const ENOUGH_ORDER: usize = MOST_RECORDS;
 pub const ENOUGH_TAKEN: usize = MOST_RECORDS;
 

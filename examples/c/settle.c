@@ -56,7 +56,6 @@ static const char *in_words(uint32_t number) {
     case RECORD_BOX_RISING: return "the record's name is not above the one before it";
     case RECORD_BOX_ENTRIES: return "the record has references where it may have none, or fewer than 2f+1";
     case RECORD_BOX_EARLIER: return "the record references a vertex that is not in the table before it";
-    case RECORD_BOX_ROUND: return "the record's round is above 1,400";
     case RECORD_BOX_LENT: return "a lent buffer is too short for this table";
     case RECORD_BOX_UNNAMED: return "no record has that name";
     case RECORD_BOX_INPUT: return "the input is longer than this program holds";
@@ -66,7 +65,7 @@ static const char *in_words(uint32_t number) {
 
 static int refuse(uint32_t number, size_t position) {
     printf("X %" PRIu32 " %zu\n", number, position);
-    if (number >= RECORD_BOX_SUM && number <= RECORD_BOX_ROUND) {
+    if (number >= RECORD_BOX_SUM && number <= RECORD_BOX_EARLIER) {
         fprintf(stderr, "settle: record %zu: ", position);
     } else {
         fprintf(stderr, "settle: ");

@@ -145,7 +145,6 @@ fn in_words(number: u32) -> &'static str {
         6 => "the record's name is not above the one before it",
         7 => "the record has references where it may have none, or fewer than 2f+1",
         8 => "the record references a vertex that is not in the table before it",
-        9 => "the record's round is above 1,400",
         10 => "a lent buffer is too short for this table",
         11 => "no record has that name",
         12 => "the input is longer than this program holds",
@@ -277,7 +276,7 @@ fn main() -> ExitCode {
         Err(Refusal { number, position }) => {
             println!("X {number} {position}");
             match number {
-                4..=9 => eprintln!("settle: record {position}: {}", in_words(number)),
+                4..=8 => eprintln!("settle: record {position}: {}", in_words(number)),
                 _ => eprintln!("settle: {}", in_words(number)),
             }
             ExitCode::from(1)

@@ -13,7 +13,10 @@ use Rattle.rules.specs.Check.{check}
 use Rattle.rules.specs.Decide.{boxSetting}
 use Rattle.rules.specs.Order.{order}
 use Rattle.rules.specs.Settlement.{Buffers, lentCheck, tooShort, settled, settleIf, settle}
-use Rattle.rules.proofs.Refusals.{then-passed, when-no}
+use Rattle.rules.proofs.Refusals.{then-passed, when-no, nine-retired}
+use Rattle.rules.proofs.Rounds.{table-rounds}
+use Rattle.rules.proofs.Nine.{nine-never}
+use Rattle.rules.proofs.Settled.{enough-lent}
 use Rattle.rules.proofs.Order.{demand-2-order}
 use Rattle.examples.proofs.Examples.{examples}
 use Rattle.examples.proofs.PastF.{past-f}
@@ -91,4 +94,8 @@ base = record {
   one-result = settle-unique;
   examples = examples;
   past-f = past-f;
+  nine-never = nine-never first;
+  nine-retired = nine-retired;
+  rounds = table-rounds first;
+  enough = enough-lent first;
 }

@@ -1,20 +1,24 @@
 -- What is proved of the base, in one statement, in the order of the owner's demands. docs/STATEMENT.md says it in plain words.
 -- Assumes nothing.
-use Prim.Native.Nat.{ℕ}
+use Prim.Native.Nat.{ℕ, _≤_}
 use mathlib.Core.Path.{_≡_}
+use mathlib.Core.Logic.{_≢_}
 use mathlib.Core.Bool.{false}
 use mathlib.Core.List.{List, map}
 use lib.ListN.{length}
 use denote.Ref.{now}
 use Rattle.rules.specs.declared.Counts.{Counts}
+use Rattle.rules.specs.declared.Refusal.{Refusal}
 use Rattle.rules.specs.declared.Settlement.{Settlement}
 use Rattle.rules.specs.Record.{first, vertices}
-use Rattle.rules.specs.Refusals.{gives, refused, passed, outcomeTells}
+use Rattle.rules.specs.Refusals.{gives, refused, passed, rowOf, outcomeTells}
 use Rattle.rules.specs.Check.{check}
+use Rattle.rules.specs.Nine.{checkWith9}
 use Rattle.rules.specs.Decision.{cell}
-use Rattle.rules.specs.Decide.{boxSetting, decisions}
+use Rattle.rules.specs.Decide.{boxSetting, highest, decisions}
 use Rattle.rules.specs.Order.{order}
 use Rattle.rules.specs.Settlement.{Buffers, lent, tooShort, lentCheck, countsOf, takenBytes, writtenOver}
+use Rattle.rules.specs.Rounds.{mostRounds, Enough}
 use Rattle.rules.specs.Written.{Demand2Order}
 use Rattle.examples.specs.Examples.{Hold}
 use Rattle.examples.specs.PastF.{PastF}
@@ -85,3 +89,9 @@ pub record Base : Type 2 where
   -- P1 to P14 and the three sums; and past f equivocators, commit before skip and the lowest mark
   pub examples : Hold
   pub past-f : PastF
+  -- request h: with row 9 in its place the check answers the same, and no refusal has that number
+  pub nine-never : (n : ℕ) (t : List ℕ) → checkWith9 first n t ≡ check first n t
+  pub nine-retired : (r : Refusal) → rowOf r .number ≢ 9
+  -- how many rounds a table has at most; and who lends enough for that is refused for what the check refuses, never with 10
+  pub rounds : (n : ℕ) (t : List ℕ) → check first n t ≡ passed → highest (vertices first t) ≤ mostRounds n
+  pub enough : (n : ℕ) (t : List ℕ) (b : Buffers) → Enough b → lentCheck (boxSetting n) first n t b ≡ check first n t

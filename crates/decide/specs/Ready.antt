@@ -17,9 +17,9 @@ verticesOf t = vertices first t
 abbrev pub recordsOf : List ℕ → ℕ
 recordsOf t = length (vertices first t)
 
--- No round of a table that passed is above it.
+-- No round of a table that passed is above it, whatever the author count.
 abbrev pub lastRound : ℕ
-lastRound = 1400
+lastRound = 1366
 
 -- A table that passed the check: what its vertices obey, and how many records and rounds it has at most.
 pub record Sound (E : Edition) (n : ℕ) (t : List ℕ) : Type 0 where

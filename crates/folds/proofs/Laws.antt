@@ -187,6 +187,21 @@ count-cut p n (suc k) h =
     let e : n + suc k ≡ suc (n + k) = omega arith in
     rw (e, h (n + k) (omega arith) (omega arith)) (omega (arith, count-cut p n k (λ i l l′. h i l (omega arith))))
 
+-- those that pass, each sent to its own place from lo up to hi, rising, are no more than there are places
+pub count-places : (p : ℕ → Bool) (f : ℕ → ℕ) (lo hi n : ℕ) → ((i : ℕ) → i < n → p i ≡ true → (lo ≤ f i) × (f i < hi))
+    → ((i j : ℕ) → i < j → j < n → p i ≡ true → p j ≡ true → f i < f j) → countTo p n ≤ hi - lo
+unfolding countTo
+count-places p f lo hi zero h rises = zero-le
+count-places p f lo hi (suc n) h rises =
+    by-test (p n)
+    (λ e. let w = h n (le-refl (suc n)) e in
+    let ih = count-places p f lo (f n) n (λ i l t. (h i (le-step l) t .0, rises i n l (le-refl (suc n)) t e)) (λ i j l k. rises i j l (le-step k)) in
+    let one : bit (p n) ≡ 1 = rw e in
+    omega (arith, w .0, w .1))
+    (λ e. let ih = count-places p f lo hi n (λ i l. h i (le-step l)) (λ i j l k. rises i j l (le-step k)) in
+    let none : bit (p n) ≡ 0 = rw e in
+    omega arith)
+
 pub any-cut : (p : ℕ → Bool) (n k : ℕ) → ((i : ℕ) → n ≤ i → i < n + k → p i ≡ false) → anyTo p (n + k) ≡ anyTo p n
 any-cut p n k h = by-test (anyTo p n) (λ e. up (any-witness p n e) ∙ sym e) (λ e. any-false p (n + k) (λ i l. below i l e) ∙ sym e)
   where

@@ -9,13 +9,13 @@ use lib.Dec.{ltb}
 use lib.ListN.{length, length-drop}
 use borrow.Author.Tests.{ltb-false}
 use Rattle.folds.proofs.Tests.{by-test}
-use Rattle.rules.specs.Refusals.{Told, gives, refused, refusal, _when_, _then_}
+use Rattle.rules.specs.Refusals.{refusal, _when_, _then_}
 use Rattle.rules.specs.Record.{first, vertices}
 use Rattle.rules.specs.Check.{check}
 use Rattle.rules.specs.Decide.{boxSetting}
 use Rattle.rules.specs.Settlement.{Buffers, tooShort, lentCheck}
 use Rattle.rules.specs.Program.{lines, holds, printed}
-use Rattle.rules.proofs.Refusals.{when-no}
+use Rattle.rules.proofs.Refusals.{when-no, then-idle}
 use Rattle.rules.proofs.Accepted.{accepted}
 use Rattle.report.specs.Output.{output}
 use Rattle.report.proofs.Printed.{output-is}
@@ -23,11 +23,9 @@ use Rattle.record_box.specs.Answer.{authorsIn, tableIn, checked, answere
 use Rattle.record_box.proofs.Rounds.{Held, long-enough}
 
 -- After a table passes, its memory is long enough: 10 is never given.
-never-lent : (n : ℕ) (t : List ℕ) (b : Buffers) (c : Told (Unit {0})) → check first n t ≡ c → length t ≤ 65412 → Held b
-    → c then refusal 10 0 when tooShort (boxSetting n) (vertices first t) b ≡ c
-unfolding _then_
-never-lent n t b (gives tt) e l h = when-no _ _ (long-enough n t b (accepted first n t e) l h)
-never-lent n t b (refused r values) e l h = refl
+never-lent : (n : ℕ) (t : List ℕ) (b : Buffers) → length t ≤ 65412 → Held b
+    → check first n t then refusal 10 0 when tooShort (boxSetting n) (vertices first t) b ≡ check first n t
+never-lent n t b l h = then-idle _ _ (λ ok. when-no _ _ (long-enough n t b (accepted first n t ok) l h))
 
 -- So the checks are those that the program makes.
 checked-is : (input : List ℕ) (b : Buffers) → Held b
@@ -41,7 +39,7 @@ checked-is input b h = by-test (ltb holds (length input)) long fits
     fits : ltb holds (length input) ≡ false → checked input b ≡ refusal 12 0 when ltb holds (length input) then check first (authorsIn input) (tableIn input)
     fits e =
         let l : length (tableIn input) ≤ 65412 = simp length-drop (omega (arith, ltb-false holds (length input) e)) in
-        ap (λ c. refusal 12 0 when ltb holds (length input) then c) (never-lent (authorsIn input) (tableIn input) b _ refl l h)
+        ap (λ c. refusal 12 0 when ltb holds (length input) then c) (never-lent (authorsIn input) (tableIn input) b l h)
 
 -- The lines of the answer are the output.
 pub prints : (input : List ℕ) (b : Buffers) → Held b

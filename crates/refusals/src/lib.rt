@@ -29,7 +29,6 @@ pub fn number_of(why: Refusal) -> Numbered
         Refusal::Rising { position } => at(6, position),
         Refusal::Entries { position } => at(7, position),
         Refusal::Earlier { position } => at(8, position),
-        Refusal::Round { position } => at(9, position),
         Refusal::Lent => at(10, 0),
         Refusal::Unnamed => at(11, 0),
         Refusal::Input => at(12, 0),

@@ -7,14 +7,9 @@ use Rattle.rows.proofs.fields_wrong.Kinds as fields-wrong-kinds
 use Rattle.rows.proofs.fields_wrong.Reads as fields-wrong
 use Rattle.rows.proofs.entries_wrong.Kinds as entries-wrong-kinds
 use Rattle.rows.proofs.entries_wrong.Reads as entries-wrong
-use Rattle.rows.proofs.round_above.Kinds as round-above-kinds
-use Rattle.rows.proofs.round_above.Reads as round-above
 
 pub fields-wrong-unique : Only 0 fields-wrong-kinds.ps fields-wrong-kinds.r (λ κs x e y f. x ≡ y) fields-wrong.Post
 fields-wrong-unique κs a x y e f p q = p ∙ sym q
 
 pub entries-wrong-unique : Only 0 entries-wrong-kinds.ps entries-wrong-kinds.r (λ κs x e y f. x ≡ y) entries-wrong.Post
 entries-wrong-unique κs a x y e f p q = p ∙ sym q
-
-pub round-above-unique : Only 0 round-above-kinds.ps round-above-kinds.r (λ κs x e y f. x ≡ y) round-above.Post
-round-above-unique κs a x y e f p q = p ∙ sym q

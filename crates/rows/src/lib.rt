@@ -1,18 +1,16 @@
-// Rows of the check that look at one decoded record by itself: 5, 7 and 9.
+// Rows of the check that look at one decoded record by itself: 5 and 7.
 ghost use mathlib.Core.Path.{_≡_};
 ghost use mathlib.Core.Bool.{not};
 ghost use Prim.Native.Nat.{_≤_};
 ghost use lib.Dec.{eqb};
 ghost use lib.ListN.{getD};
 ghost use Rattle.folds.specs.Folds.{countTo};
-ghost use Rattle.rules.specs.Check.{fieldsWrong, entriesWrong, roundAbove};
+ghost use Rattle.rules.specs.Check.{fieldsWrong, entriesWrong};
 use rules::Vertex;
 use tally::quorum_of;
 use tally::smaller;
 
 const ENTRIES: usize = 31;
-
-const LAST_ROUND: u32 = 1400;
 
 // Row 5.
 pub fn fields_wrong(n: u8, v: Vertex) -> bool
@@ -67,11 +65,4 @@ pub fn entries_wrong(n: u8, v: Vertex) -> bool
         return all < quorum_of(n);
     }
     false
-}
-
-// Row 9.
-pub fn round_above(v: Vertex) -> bool
-    ensures { λ r. ⌜ r ≡ roundAbove v ⌝ }
-{
-    LAST_ROUND < v.round
 }

@@ -1,5 +1,5 @@
 -- What a table that passes the check obeys: names rise strictly, every reference stands earlier, at least 2f+1 references above round 1,
--- a name finds its position, and every round below the highest has records of at least 2f+1 authors.
+-- and a name finds its position.
 -- Assumes nothing.
 use Prim.Native.Nat.{ℕ, zero, suc, pred, _+_, _-_, _*_, _%_, _≤_, _<_}
 use mathlib.Core.Path.{_≡_, refl, sym, ap, _∙_, subst}
@@ -17,7 +17,7 @@ use Rattle.folds.proofs.Tests.{by-test, not-both, failed, passed, and-left, and
 use Rattle.folds.proofs.Laws.{first-unique, any-none, count-cut}
 use Rattle.folds.proofs.Quorum.{some-of}
 use Rattle.rules.specs.declared.Vertex.{Vertex}
-use Rattle.rules.specs.Refusals.{passed as passes}
+use Rattle.rules.specs.Refusals.{passed as passes, eachTo}
 use Rattle.rules.specs.Authors.{isCount, faults, quorum}
 use Rattle.rules.specs.Record.{Edition, recordAt, records, vertices, noVertex, at, entry, refers, entryName, nameOf, find, vertexOf}
 use Rattle.rules.specs.Check.{fieldsWrong, notAbove, entriesWrong, notEarlier, checkRecord, checkTable, check}
@@ -26,7 +26,7 @@ use Rattle.rules.proofs.Names.{same-name, name-same, Below, below-is, b
 use Rattle.rules.proofs.Records.{vertices-length, vertices-at, decode-entries, find-first, find-name}
 use Rattle.rules.proofs.Refusals.{when-passed, then-both, each-passed}
 
--- The record at p passes 5 to 9, and has 31 entries. What check 4 says is of its bytes.
+-- The record at p passes 5 to 8, and has 31 entries. What check 4 says is of its bytes.
 pub record Fine (n : ℕ) (vs : List Vertex) (p : ℕ) : Type 0 where
   pub fields : fieldsWrong n (at vs p) ≡ false
   pub above : notAbove vs p ≡ false
@@ -46,27 +46,48 @@ record-passed E n t p l e =
     let e5 = then-both _ _ (e4 .1) in
     let e6 = then-both _ _ (e5 .1) in
     let e7 = then-both _ _ (e6 .1) in
-    let e8 = then-both _ _ (e7 .1) in
     record {
       fields = when-passed _ _ _ (e5 .0);
       above = when-passed _ _ _ (e6 .0);
       entries = when-passed _ _ _ (e7 .0);
-      found = when-passed _ _ _ (e8 .0);
+      found = when-passed _ _ _ (e7 .1);
       width = ap (λ v. length (v .refs)) (vertices-at E t p l) ∙ decode-entries E (recordAt E t p);
     }
 
-pub accepted : (E : Edition) (n : ℕ) (t : List ℕ) → check E n t ≡ passes → Accepted n (vertices E t)
-unfolding check checkTable isCount
-accepted E n t e =
+-- What one of the ten counts is.
+pub record IsCount (n : ℕ) : Type 0 where
+  pub whole : n ≡ 3 * faults n + 1
+  pub least : 4 ≤ n
+  pub most : n ≤ 31
+
+pub count-is : (n : ℕ) → isCount n ≡ true → IsCount n
+unfolding isCount
+count-is n e =
+    let rest = and-right _ _ e in
+    record { whole = omega (arith, eqb-true (n % 3) 1 (and-right _ _ rest)); least = leb-true 4 n (and-left _ _ e); most = leb-true n 31 (and-left _ _ rest) }
+
+-- What a table that passes has passed.
+pub record Passed (E : Edition) (n : ℕ) (t : List ℕ) : Type 0 where
+  pub count : isCount n ≡ true
+  pub few : records E t ≤ 4096
+  pub each : eachTo (checkRecord E n t (vertices E t)) (records E t) ≡ passes
+
+pub check-passed : (E : Edition) (n : ℕ) (t : List ℕ) → check E n t ≡ passes → Passed E n t
+unfolding check checkTable
+check-passed E n t e =
     let e1 = then-both _ _ e in
     let e2 = then-both _ _ (e1 .1) in
     let e3 = then-both _ _ (e2 .1) in
-    let good = not-false _ (when-passed _ _ _ (e1 .0)) in
-    let rest = and-right _ _ good in
+    record { count = not-false _ (when-passed _ _ _ (e1 .0)); few = ltb-false _ _ (when-passed _ _ _ (e3 .0)); each = e3 .1 }
+
+pub accepted : (E : Edition) (n : ℕ) (t : List ℕ) → check E n t ≡ passes → Accepted n (vertices E t)
+accepted E n t e =
+    let C = check-passed E n t e in
+    let count = count-is n (C .count) in
     record {
-      count = omega (arith, eqb-true (n % 3) 1 (and-right _ _ rest));
-      few = leb-true n 31 (and-left _ _ rest);
-      each = λ p l. let l′ : p < records E t = rw (← vertices-length E t) l in record-passed E n t p l′ (each-passed _ (records E t) (e3 .1) p l′);
+      count = count .whole;
+      few = count .most;
+      each = λ p l. let l′ : p < records E t = rw (← vertices-length E t) l in record-passed E n t p l′ (each-passed _ (records E t) (C .each) p l′);
     }
 
 -- ---- names rise as far as check 6 is passed
@@ -169,43 +190,3 @@ module _ {n : ℕ} {vs : List Vertex} (A : Accepted n vs) where
   -- the vertex that a non-zero entry names
   pub entry-vertex : (p i : ℕ) → p < length vs → entry (at vs p) i ≢ 0 → nameOf (at vs (find vs (entryName (at vs p) i))) ≡ entryName (at vs p) i
   entry-vertex p i l nz = find-name vs _ (omega (arith, earlier p i l nz))
-
-  -- author a has a vertex in round r
-  abbrev pub Present : ℕ → ℕ → Type 0
-  Present r a = (p : ℕ) × (p < length vs) × (at vs p .round ≡ r) × (at vs p .author ≡ a)
-
-  -- below a vertex of round r + 1 there are records of at least 2f+1 authors
-  pub present : (r p : ℕ) → p < length vs → 0 < r → at vs p .round ≡ r + 1 → Many n (quorum n) (Present r)
-  present r p l pos e = record {
-    who = refers (at vs p);
-    enough = enough p l (omega arith);
-    have = λ i li t. there i (eqb-false _ _ (not-true _ t));
-  }
-    where
-      there : (i : ℕ) → entry (at vs p) i ≢ 0 → Present r i
-      there i nz =
-          let d = earlier p i l nz in
-          let v = entry-vertex p i l nz in
-          let level : pred (at vs p .round) ≡ r = omega (arith, e) in
-          (find vs (entryName (at vs p) i), omega (arith, d), ap (λ x. x .round) v ∙ level, ap (λ x. x .author) v)
-
-  -- there is a vertex in every round from 1 to that of any vertex
-  pub vertex-in : (k r p : ℕ) → p < length vs → 0 < r → at vs p .round ≡ r + k → (q : ℕ) × (q < length vs) × (at vs q .round ≡ r)
-  vertex-in zero r p l pos e = (p, l, omega arith)
-  vertex-in (suc k) r p l pos e =
-      let w = some-of n (quorum n) (Present (r + k)) (omega arith) (present (r + k) p l (omega arith) (omega arith)) in
-      vertex-in k r (w .2 .0) (w .2 .1) pos (w .2 .2)
-
-  -- every round below the highest has records of at least 2f+1 authors
-  pub populated : (r : ℕ) → 0 < r → r < highest vs → Many n (quorum n) (Present r)
-  unfolding highest
-  populated r pos h = by-test (ltb (pred (length vs)) (length vs)) some-record (λ e. absurd (none (ltb-false _ _ e)))
-    where
-      some-record : ltb (pred (length vs)) (length vs) ≡ true → Many n (quorum n) (Present r)
-      some-record e = one-above (vertex-in (at vs (pred (length vs)) .round - (r + 1)) (r + 1) (pred (length vs)) (ltb-true _ _ e) (omega arith) (omega arith))
-        where
-          one-above : (q : ℕ) × (q < length vs) × (at vs q .round ≡ r + 1) → Many n (quorum n) (Present r)
-          one-above (q, lq, eq) = present r q lq pos eq
-
-      none : length vs ≤ pred (length vs) → ⊥
-      none l = let zero : at vs (pred (length vs)) .round ≡ 0 = ap (λ (v : Vertex). v .round) (List·getD-eq-default vs noVertex l) in omega arith

@@ -3,6 +3,9 @@ pub mod Slots
 pub mod Refusals
 pub mod Records
 pub mod Accepted
+pub mod Front
+pub mod Rounds
+pub mod Nine
 pub mod Support
 pub mod History
 pub mod Decisions

@@ -5,12 +5,12 @@ use mathlib.Core.Path.{_≡_, refl, sym, ap, _∙_}
 use mathlib.Core.Bool.{Bool, true, false, false≢true, true≢false}
 use mathlib.Core.List.{List, [], _∷_}
 use native.Mathlib.Nat.{le-refl, le-step, not-suc-le-zero, le-of-suc-le-suc, eq-or-lt-of-le}
-use mathlib.Core.Logic.{_⊎_, ⊎-elim}
+use mathlib.Core.Logic.{_⊎_, ⊎-elim, _≢_}
 use native.Mathlib.Omega.{arith}
 use native.Mathlib.Numerals.{add-one}
 use lib.ListN.{getD}
 use Rattle.rules.specs.declared.Refusal.{Refusal}
-use Rattle.rules.specs.declared.Refusal.the-variants.{Authors, Length, Records, Sum, Fields, Rising, Entries, Earlier, Round, Lent, Unnamed, Input}
+use Rattle.rules.specs.declared.Refusal.the-variants.{Authors, Length, Records, Sum, Fields, Rising, Entries, Earlier, Lent, Unnamed, Input}
 use Rattle.rules.specs.declared.Checked.{Checked}
 use Rattle.rules.specs.declared.Checked.the-variants as checked
 use Rattle.rules.specs.declared.LookupAnswer.{LookupAnswer}
@@ -62,6 +62,12 @@ module _ {A : Type 0} where
   then-both (gives tt) d e = (refl, e)
   then-both (refused k vs) d e = absurd (refused-gives refl e)
 
+  -- what follows a check matters only if that is passed
+  pub then-same : (c : Told (Unit {0})) (d e : Told A) → (c ≡ passed → d ≡ e) → c then d ≡ c then e
+  unfolding _then_
+  then-same (gives tt) d e h = h refl
+  then-same (refused k vs) d e h = refl
+
 -- a refusal of a check after which something is given is the check's
 pub gives-refused : {A : Type 0} {k : ℕ} {vs : List ℕ} (c : Told (Unit {0})) (a : A) → c then gives a ≡ refused k vs → c ≡ refused k vs
 unfolding _then_
@@ -72,6 +78,12 @@ pub then-assoc : {A : Type 0} (b c : Told (Unit {0})) (d : Told A) → (b then c
 unfolding _then_
 then-assoc (gives tt) c d = refl
 then-assoc (refused k vs) c d = refl
+
+-- a check that refuses nothing of what the first has passed
+pub then-idle : (c d : Told (Unit {0})) → (c ≡ passed → d ≡ passed) → c then d ≡ c
+unfolding _then_
+then-idle (gives tt) d h = h refl
+then-idle (refused k vs) d h = refl
 
 -- ---- what code that asks for an answer and goes on knows
 
@@ -118,6 +130,15 @@ unfolding eachTo
 each-all c zero h = refl
 each-all c (suc k) h = then-passed _ _ (each-all c k (λ i l. h i (le-step l))) ∙ h k (le-refl (suc k))
 
+-- a last row that refuses nothing that all other rows have passed so far can be left out
+pub each-without : (c d : ℕ → Told (Unit {0})) (k : ℕ) → ((i : ℕ) → i < k → eachTo c (suc i) ≡ passed → d i ≡ passed)
+    → eachTo (λ i. c i then d i) k ≡ eachTo c k
+unfolding eachTo
+each-without c d zero h = refl
+each-without c d (suc k) h =
+    rw (each-without c d k (λ i l. h i (le-step l)))
+    (sym (then-assoc (eachTo c k) (c k) (d k)) ∙ then-idle (eachTo c k then c k) (d k) (h k (le-refl (suc k))))
+
 -- ---- what an answer tells fixes the answer
 
 -- the refusal with a number and a position
@@ -131,7 +152,7 @@ unnumber (suc (suc (suc (suc (suc zero))))) p = Fields p
 unnumber (suc (suc (suc (suc (suc (suc zero)))))) p = Rising p
 unnumber (suc (suc (suc (suc (suc (suc (suc zero))))))) p = Entries p
 unnumber (suc (suc (suc (suc (suc (suc (suc (suc zero)))))))) p = Earlier p
-unnumber (suc (suc (suc (suc (suc (suc (suc (suc (suc zero))))))))) p = Round p
+unnumber (suc (suc (suc (suc (suc (suc (suc (suc (suc zero))))))))) p = Input
 unnumber (suc (suc (suc (suc (suc (suc (suc (suc (suc (suc zero)))))))))) p = Lent
 unnumber (suc (suc (suc (suc (suc (suc (suc (suc (suc (suc (suc zero))))))))))) p = Unnamed
 unnumber (suc (suc (suc (suc (suc (suc (suc (suc (suc (suc (suc (suc k)))))))))))) p = Input
@@ -152,7 +173,6 @@ rowed (Fields p) = record { fixed = refl; one = refl; above = omega arith }
 rowed (Rising p) = record { fixed = refl; one = refl; above = omega arith }
 rowed (Entries p) = record { fixed = refl; one = refl; above = omega arith }
 rowed (Earlier p) = record { fixed = refl; one = refl; above = omega arith }
-rowed (Round p) = record { fixed = refl; one = refl; above = omega arith }
 rowed Lent = record { fixed = refl; one = refl; above = omega arith }
 rowed Unnamed = record { fixed = refl; one = refl; above = omega arith }
 rowed Input = record { fixed = refl; one = refl; above = omega arith }
@@ -162,6 +182,14 @@ one-value r = rowed r .one
 
 pub number-above : (r : Refusal) → 0 < rowOf r .number
 number-above r = rowed r .above
+
+-- 9 is retired: no refusal has that number
+pub nine-retired : (r : Refusal) → rowOf r .number ≢ 9
+unfolding unnumber
+nine-retired r e =
+    let input : Input ≡ r = ap (λ k. unnumber k (getD (rowOf r .values) 0 0)) (sym e) ∙ rowed r .fixed in
+    let twelve : 12 ≡ rowOf r .number = ap (λ s. rowOf s .number) input in
+    omega arith
 
 pub refusal-unique : {A : Type 0} (r s : Refusal) → _≡_ {A = Told A} (refusalTells r) (refusalTells s) → r ≡ s
 refusal-unique r s e = sym (rowed r .fixed) ∙ ap (λ c. unnumber (numberOf c) (positionOf c)) e ∙ rowed s .fixed

@@ -1,4 +1,4 @@
--- Document 01, "Refusal numbers and their order": the rows 1 to 9, each with a test of its own, and their order.
+-- Document 01, "Refusal numbers and their order": the rows 1 to 8, each with a test of its own, and their order.
 -- Assumes nothing.
 use Prim.Native.Nat.{ℕ, pred, _%_}
 use mathlib.Core.Bool.{Bool, not}
@@ -34,11 +34,7 @@ entriesWrong n v =
 unfoldable pub notEarlier : List Vertex → ℕ → Bool
 notEarlier vs p = anyTo (λ i. refers (at vs p) i and leb p (find vs (entryName (at vs p) i))) 31
 
--- 9: round above 1,400
-unfoldable pub roundAbove : Vertex → Bool
-roundAbove v = ltb 1400 (v .round)
-
--- Each record is put through 4 to 9 in order.
+-- Each record is put through 4 to 8 in order. Document 02, h): row 9 is gone.
 unfoldable pub checkRecord : Edition → ℕ → List ℕ → List Vertex → ℕ → Told (Unit {0})
 checkRecord E n t vs p =
     refusal 4 p when sumDiffers E t vs p
@@ -46,7 +42,6 @@ checkRecord E n t vs p =
     then refusal 6 p when notAbove vs p
     then refusal 7 p when entriesWrong n (at vs p)
     then refusal 8 p when notEarlier vs p
-    then refusal 9 p when roundAbove (at vs p)
 
 -- Checks 2 and 3, then records are taken by position from 0.
 unfoldable pub checkTable : Edition → ℕ → List ℕ → Told (Unit {0})

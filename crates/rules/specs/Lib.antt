@@ -2,6 +2,7 @@ pub mod Authors
 pub mod Record
 pub mod Refusals
 pub mod Check
+pub mod Nine
 pub mod Lookup
 pub mod Decision
 pub mod Support
@@ -10,6 +11,7 @@ pub mod Decide
 pub mod Order
 pub mod Written
 pub mod Settlement
+pub mod Rounds
 pub mod Program
 pub mod Open
 pub mod Tables

@@ -5,7 +5,7 @@ use mathlib.Core.Bool.{Bool, true, false}
 use mathlib.Core.List.{List, [], _∷_}
 use lib.ListN.{getD}
 use Rattle.rules.specs.declared.Refusal.{Refusal}
-use Rattle.rules.specs.declared.Refusal.the-variants.{Authors, Length, Records, Sum, Fields, Rising, Entries, Earlier, Round, Lent, Unnamed, Input}
+use Rattle.rules.specs.declared.Refusal.the-variants.{Authors, Length, Records, Sum, Fields, Rising, Entries, Earlier, Lent, Unnamed, Input}
 use Rattle.rules.specs.declared.Checked.{Checked}
 use Rattle.rules.specs.declared.Checked.the-variants as checked
 use Rattle.rules.specs.declared.LookupAnswer.{LookupAnswer}
@@ -40,7 +40,7 @@ positionOf (refused k vs) = getD vs 0 0
 
 -- ---- what each case of an answer tells
 
--- The number and the values of each refusal.
+-- The number and the values of each refusal. 9 is retired (document 02, h).
 pub record Row : Type 0 where
   pub number : ℕ
   pub values : List ℕ
@@ -57,7 +57,6 @@ rowOf (Fields p) = row 5 p
 rowOf (Rising p) = row 6 p
 rowOf (Entries p) = row 7 p
 rowOf (Earlier p) = row 8 p
-rowOf (Round p) = row 9 p
 rowOf Lent = row 10 0
 rowOf Unnamed = row 11 0
 rowOf Input = row 12 0

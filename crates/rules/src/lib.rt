@@ -28,7 +28,6 @@ pub enum Refusal {
     Rising { position: usize },
     Entries { position: usize },
     Earlier { position: usize },
-    Round { position: usize },
     Lent,
     Unnamed,
     Input,

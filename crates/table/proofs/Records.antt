@@ -12,10 +12,10 @@ use Rattle.rules.specs.declared.Vertex.{Vertex}
 use Rattle.rules.specs.Authors.{isCount}
 use Rattle.rules.specs.Record.{first, recordAt, decode, sumOf, records, vertices, at}
 use Rattle.rules.specs.Refusals.{Told, refusal, passed, _when_, _then_, eachTo}
-use Rattle.rules.specs.Check.{sumDiffers, fieldsWrong, notEarlier, roundAbove, checkRecord}
+use Rattle.rules.specs.Check.{sumDiffers, fieldsWrong, notEarlier, checkRecord}
 use Rattle.rules.proofs.Records.{vertices-at}
 use Rattle.rules.proofs.Refusals.{when-passed, then-both, then-assoc, each-passed}
-use Rattle.rules.proofs.Accepted.{record-passed}
+use Rattle.rules.proofs.Accepted.{count-is, record-passed}
 use Rattle.table.specs.Ready.{Reached, Ready}
 use Rattle.table.specs.Rows.{fourToSeven}
 
@@ -23,14 +23,8 @@ use Rattle.table.specs.Rows.{fourToSeven}
 abbrev pub checkAt : ℕ → List ℕ → ℕ → Told (Unit {0})
 checkAt n t = checkRecord first n t (vertices first t)
 
--- a count is at most 31
-pub count-few : (n : ℕ) → isCount n ≡ true → n ≤ 31
-unfolding isCount
-count-few n e = leb-true n 31 (and-left _ _ (and-right _ _ e))
-
--- the rows that need no search, then 8, then 9
-pub rows : (n : ℕ) (t : List ℕ) (p : ℕ)
-    → checkAt n t p ≡ fourToSeven n t p then refusal 8 p when notEarlier (vertices first t) p then refusal 9 p when roundAbove (at (vertices first t) p)
+-- the rows that need no search, then 8
+pub rows : (n : ℕ) (t : List ℕ) (p : ℕ) → checkAt n t p ≡ fourToSeven n t p then refusal 8 p when notEarlier (vertices first t) p
 unfolding checkRecord
 rows n t p = simp then-assoc
 
@@ -54,7 +48,7 @@ ready n t p v R e =
     let e6 = then-both _ _ (e5 .1) in
     let fields : fieldsWrong n v ≡ false = rw (R .is) (when-passed _ _ _ (e5 .0)) in
     record {
-      few = count-few n (R .count);
+      few = count-is n (R .count) .most;
       within = R .within;
       is = R .is;
       round-pos = eqb-false _ _ (or-neither _ _ (or-neither _ _ fields .1) .0);

@@ -21,7 +21,6 @@ use record::part;
 use record::records_of;
 use rows::entries_wrong;
 use rows::fields_wrong;
-use rows::round_above;
 use rules::Checked;
 use rules::Name;
 use rules::Refusal;
@@ -72,7 +71,7 @@ fn check_count(n: u8) -> Checked
     Checked::Refused(Refusal::Authors)
 }
 
-// ---- 4 to 9: the test of each row
+// ---- 4 to 8: the test of each row
 
 fn sum_differs(b: &[u8], sum: u16) -> bool
     ensures { λ r. ⌜ r ≡ not (eqb (sumOf first (now (b .entry))) sum) ⌝ }
@@ -156,7 +155,7 @@ fn four_to_seven(n: u8, table: &[u8], p: usize, v: Vertex) -> Checked
     first_of(four, first_of(five, first_of(six, seven)))
 }
 
-// 4 to 9. The search of row 8 relies on what the rows before it say.
+// 4 to 8. The search of row 8 relies on what the rows before it say.
 fn check_record(n: u8, table: &[u8], p: usize, v: Vertex) -> Checked
     requires { ⌜ Reached n (now table) p v ⌝ }
     ensures { λ r. ⌜ checkTells r ≡ checkRecord first n (now (table .entry)) (vertices first (now (table .entry))) p ⌝ }
@@ -166,12 +165,10 @@ fn check_record(n: u8, table: &[u8], p: usize, v: Vertex) -> Checked
         Checked::Passed => {}
         Checked::Refused(r) => return Checked::Refused(r),
     }
-    let eight = row(
+    row(
         Refusal::Earlier { position: p },
         not_earlier(n, table, p, v),
-    );
-    let nine = row(Refusal::Round { position: p }, round_above(v));
-    first_of(eight, nine)
+    )
 }
 
 // Records are taken by position from 0.

@@ -29,16 +29,13 @@ returns-8 : tie.Need-returns-8
 returns-8 c = rw (c .before .before .why5 .given .1) (c .at8 .ensures)
 
 returns-9 : tie.Need-returns-9
-returns-9 c = rw (c .before .before .why6 .given .1) (c .at9 .ensures)
+returns-9 c = rw (c .before .enum-told4 .given .1) (c .at9 .ensures)
 
 returns-10 : tie.Need-returns-10
-returns-10 c = rw (c .before .enum-told4 .given .1) (c .at10 .ensures)
+returns-10 c = rw (c .before .enum-told5 .given .1) (c .at10 .ensures)
 
 returns-11 : tie.Need-returns-11
-returns-11 c = rw (c .before .enum-told5 .given .1) (c .at11 .ensures)
-
-returns-12 : tie.Need-returns-12
-returns-12 c = rw (c .before .enum-told6 .given .1) (c .at12 .ensures)
+returns-11 c = rw (c .before .enum-told6 .given .1) (c .at11 .ensures)
 
 pub number-of-spec : {M : Type 1} → statement M
 number-of-spec =
@@ -46,5 +43,5 @@ number-of-spec =
     (tie.spec (λ c. search needs) (λ c κs. search needs) (λ c. search needs) (λ c κs. search needs) (λ c. search needs) (λ c κs. search needs)
     (λ c. search needs) (λ c κs. search needs) (λ c. search needs) (λ c κs. search needs) (λ c. search needs) (λ c κs. search needs)
     (λ c. search needs) (λ c κs. search needs) (λ c. search needs) (λ c κs. search needs) (λ c. search needs) (λ c κs. search needs)
-    (λ c. search needs) (λ c κs. search needs) (λ c. search needs) (λ c κs. search needs) (λ c. search needs) (λ c κs. search needs) returns returns-2
-    returns-3 returns-4 returns-5 returns-6 returns-7 returns-8 returns-9 returns-10 returns-11 returns-12)
+    (λ c. search needs) (λ c κs. search needs) (λ c. search needs) (λ c κs. search needs) returns returns-2 returns-3 returns-4 returns-5 returns-6
+    returns-7 returns-8 returns-9 returns-10 returns-11)

@@ -21,18 +21,12 @@ not-earlier-requires c κs =
 
 returns-2 : tie.Need-returns-2
 returns-2 c =
-    let nine = c .before in
-    let eight = nine .before .before in
-    let f = eight .before .before .before .before in
+    let f = c .before .before .before .before in
     let g = f .before .before in
-    let round = rw (g .pre .is) at (nine .before .round-above .ensures) in
-    let passes = goes-on (f .four-to-seven .ensures) (eight .before .before .enum-told .given .1) in
-    c .first-of .ensures
-    ∙ rw (eight .row .ensures, eight .before .not-earlier .ensures, nine .row2 .ensures, round)
-    (sym (rows (g .args .n) (g .args .table .now) (g .args .p) ∙ then-passed _ _ passes))
+    let passes = goes-on (f .four-to-seven .ensures) (c .before .before .enum-told .given .1) in
+    c .row .ensures ∙ rw (c .before .not-earlier .ensures) (sym (rows (g .args .n) (g .args .table .now) (g .args .p) ∙ then-passed _ _ passes))
 
 pub check-record-spec : {M : Type 1} → statement M
 check-record-spec =
     tie.close
-    (tie.spec (λ c κs. search needs) (λ c. search needs) (λ c. search needs) returns not-earlier-requires (λ c κs. search needs)
-    (λ c κs. search needs) (λ c κs. search needs) (λ c κs. search needs) returns-2)
+    (tie.spec (λ c κs. search needs) (λ c. search needs) (λ c. search needs) returns not-earlier-requires (λ c κs. search needs) returns-2)

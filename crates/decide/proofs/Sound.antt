@@ -7,7 +7,7 @@ use native.Mathlib.Omega.{arith}
 use native.Mathlib.Nat.{le-trans}
 use lib.ListN.{length}
 use Rattle.rules.specs.Refusals.{passed}
-use Rattle.rules.specs.Record.{Edition, vertices}
+use Rattle.rules.specs.Record.{Edition}
 use Rattle.rules.specs.Check.{check}
 use Rattle.rules.proofs.Records.{vertices-length}
 use Rattle.rules.proofs.Accepted.{check-passed, accepted}

@@ -1,7 +1,7 @@
 -- What a table that passes the check obeys: names rise strictly, every reference stands earlier, at least 2f+1 references above round 1,
 -- and a name finds its position.
 -- Assumes nothing.
-use Prim.Native.Nat.{ℕ, zero, suc, pred, _+_, _-_, _*_, _%_, _≤_, _<_}
+use Prim.Native.Nat.{ℕ, zero, suc, _+_, _-_, _*_, _%_, _≤_, _<_}
 use mathlib.Core.Path.{_≡_, refl, sym, ap, _∙_, subst}
 use mathlib.Core.Logic.{_⊎_, ⊎-elim, _≢_}
 use mathlib.Core.Bool.{true, false}
@@ -12,16 +12,13 @@ use lib.Dec.{leb, ltb, eqb}
 use lib.ListN.{length, List·getD-eq-default}
 use borrow.Author.Tests.{eqb-true, eqb-false, eq-eqb, ne-eqb, leb-true, leb-false, ltb-true, ltb-false, lt-ltb}
 use Rattle.folds.specs.Folds.{_and_, _or_, countTo, anyTo}
-use Rattle.folds.specs.Many.{Many}
 use Rattle.folds.proofs.Tests.{by-test, not-both, failed, passed, and-left, and-right, and-true, and-false, or-neither, not-true, not-false, is-not}
 use Rattle.folds.proofs.Laws.{first-unique, any-none, count-cut}
-use Rattle.folds.proofs.Quorum.{some-of}
 use Rattle.rules.specs.declared.Vertex.{Vertex}
 use Rattle.rules.specs.Refusals.{passed as passes, eachTo}
 use Rattle.rules.specs.Authors.{isCount, faults, quorum}
-use Rattle.rules.specs.Record.{Edition, recordAt, records, vertices, noVertex, at, entry, refers, entryName, nameOf, find, vertexOf}
+use Rattle.rules.specs.Record.{Edition, recordAt, records, vertices, at, entry, refers, entryName, nameOf, find, vertexOf}
 use Rattle.rules.specs.Check.{fieldsWrong, notAbove, entriesWrong, notEarlier, checkRecord, checkTable, check}
-use Rattle.rules.specs.Decide.{highest}
 use Rattle.rules.proofs.Names.{same-name, name-same, Below, below-is, below-trans, below-irrefl}
 use Rattle.rules.proofs.Records.{vertices-length, vertices-at, decode-entries, find-first, find-name}
 use Rattle.rules.proofs.Refusals.{when-passed, then-both, each-passed}

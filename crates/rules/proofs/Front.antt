@@ -2,7 +2,7 @@
 -- refusal there is an accepted table.
 -- Assumes nothing.
 use Prim.Native.Nat.{ℕ, pred, _≤_, _<_}
-use mathlib.Core.Path.{_≡_, refl, sym, ap, _∙_}
+use mathlib.Core.Path.{_≡_, ap, _∙_}
 use mathlib.Core.Bool.{true}
 use mathlib.Core.List.{List}
 use native.Mathlib.Omega.{arith}
@@ -30,9 +30,10 @@ module _ (vs : List Vertex) (k : ℕ) (w : k ≤ length vs) where
   front-at : (p : ℕ) → p < k → at front p ≡ at vs p
   front-at p l = getD-take k vs p noVertex l
 
-  -- where the first p records hold a name, they are among the first k
+  -- whether a name stands before p is told alike by all records and by the first k, where p is one of these
   front-find : (x : Name) (p : ℕ) → p ≤ k → leb p (find front x) ≡ leb p (find vs x)
-  front-find x p l = both-ways _ _ (λ e. passed _ (λ f. in-front (leb-true _ _ e) (leb-false _ _ f))) (λ e. passed _ (λ f. in-all (leb-true _ _ e) (leb-false _ _ f)))
+  front-find x p l =
+      both-ways _ _ (λ e. passed _ (λ f. in-front (leb-true _ _ e) (leb-false _ _ f))) (λ e. passed _ (λ f. in-all (leb-true _ _ e) (leb-false _ _ f)))
     where
       in-front : p ≤ find front x → find vs x < p → ⊥
       in-front h g =

@@ -6,7 +6,6 @@ use mathlib.Core.Path.{_≡_}
 use mathlib.Core.Bool.{true, false}
 use mathlib.Core.List.{List}
 use native.Mathlib.Omega.{arith}
-use lib.ListN.{take}
 use lib.Seq.{length-take-le, getD-take}
 use borrow.Author.Tests.{ltb-false, le-ltb}
 use Rattle.folds.proofs.Tests.{not-false}
@@ -16,7 +15,7 @@ use Rattle.rules.specs.Record.{Edition, records, vertices, noVertex, at}
 use Rattle.rules.specs.Refusals.{passed, eachTo}
 use Rattle.rules.specs.Check.{checkRecord, checkTable, check}
 use Rattle.rules.specs.Rounds.{mostRounds}
-use Rattle.rules.specs.Nine.{roundAbove, checkRecordWith9, checkWith9}
+use Rattle.rules.specs.Nine.{limit9, roundAbove, checkRecordWith9, checkWith9}
 use Rattle.rules.proofs.Records.{vertices-length}
 use Rattle.rules.proofs.Refusals.{when-no, when-passed, then-same, each-without}
 use Rattle.rules.proofs.Front.{accepted-front}
@@ -35,7 +34,7 @@ module _ (E : Edition) (n : ℕ) (t : List ℕ) (count : isCount n ≡ true) (fe
 
   never : (p : ℕ) → p < records E t → eachTo (checkRecord E n t vs) (suc p) ≡ passed → roundAbove (at vs p) ≡ false
   unfolding roundAbove
-  never p l e = le-ltb 1400 (at vs p .round) (omega (arith, round-low p l e))
+  never p l e = le-ltb limit9 (at vs p .round) (omega (arith, round-low p l e))
 
 pub nine-never : (E : Edition) (n : ℕ) (t : List ℕ) → checkWith9 E n t ≡ check E n t
 unfolding checkWith9 check checkTable checkRecordWith9

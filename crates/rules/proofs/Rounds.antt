@@ -111,7 +111,8 @@ module _ {n : ℕ} {vs : List Vertex} (A : Accepted n vs) where
 
   pub round-most : length vs ≤ 4096 → (p : ℕ) → p < length vs → at vs p .round ≤ mostRounds n
   round-most few p l =
-      let h : at vs p .round - 1 ≤ (4096 - 1) / quorum n = le-div-iff-mul-le {k = quorum n} {x = at vs p .round - 1} {y = 4096 - 1} (omega arith) .1 (omega (arith, rounds-below p l)) in
+      let h : at vs p .round - 1 ≤ (4096 - 1) / quorum n =
+      le-div-iff-mul-le {k = quorum n} {x = at vs p .round - 1} {y = 4096 - 1} (omega arith) .1 (omega (arith, rounds-below p l)) in
       omega arith
 
   pub rounds-most : length vs ≤ 4096 → highest vs ≤ mostRounds n

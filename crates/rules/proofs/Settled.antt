@@ -5,6 +5,7 @@ use Prim.Native.Nat.{ℕ, _≤_, _<_}
 use mathlib.Core.Path.{_≡_, refl}
 use mathlib.Core.Bool.{false}
 use mathlib.Core.List.{List}
+use native.Mathlib.Omega.{arith}
 use native.Mathlib.Nat.{le-trans}
 use lib.ListN.{length}
 use borrow.Author.Tests.{le-ltb}
@@ -50,4 +51,4 @@ enough-lent E n t b h = then-idle _ _ (λ ok. when-no _ _ (fits ok))
         let P = check-passed E n t ok in
         let few : length (vertices E t) ≤ 4096 = rw (vertices-length E t) (P .few) in
         let low : highest (vertices E t) ≤ 1366 = le-trans (table-rounds E n t ok) (most-rounds n (P .count)) in
-        not-short (boxSetting n) (vertices E t) b (le-trans low (h .cells)) (le-trans few (h .order)) (le-trans few (h .taken))
+        not-short (boxSetting n) (vertices E t) b (omega (arith, low, h .cells)) (omega (arith, few, h .order)) (omega (arith, few, h .taken))

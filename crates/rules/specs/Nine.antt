@@ -13,8 +13,11 @@ use Rattle.rules.specs.Refusals.{Told, refusal, _when_, _then_, eachTo}
 use Rattle.rules.specs.Check.{checkRecord}
 
 -- 9: round above 1,400
+abbrev pub limit9 : ℕ
+limit9 = 1400
+
 unfoldable pub roundAbove : Vertex → Bool
-roundAbove v = ltb 1400 (v .round)
+roundAbove v = ltb limit9 (v .round)
 
 -- Each record is put through 4 to 9 in order.
 unfoldable pub checkRecordWith9 : Edition → ℕ → List ℕ → List Vertex → ℕ → Told (Unit {0})

@@ -1,13 +1,13 @@
 -- The rows of one record, in order, and what is known of a record that is reached, and of one that has reached check 8.
 -- Assumes nothing.
-use Prim.Native.Nat.{ℕ, _≤_, _<_}
+use Prim.Native.Nat.{ℕ, _<_}
 use mathlib.Core.Path.{_≡_, sym, _∙_}
 use mathlib.Core.Bool.{true, false, not}
 use mathlib.Core.List.{List}
 use native.Mathlib.Omega.{arith}
 use lib.Dec.{eqb}
-use borrow.Author.Tests.{eqb-false, leb-true}
-use Rattle.folds.proofs.Tests.{and-left, and-right, or-neither}
+use borrow.Author.Tests.{eqb-false}
+use Rattle.folds.proofs.Tests.{or-neither}
 use Rattle.rules.specs.declared.Vertex.{Vertex}
 use Rattle.rules.specs.Authors.{isCount}
 use Rattle.rules.specs.Record.{first, recordAt, decode, sumOf, records, vertices, at}

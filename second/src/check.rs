@@ -1,8 +1,14 @@
-//! Document 01, "Refusal numbers and their order": checks 1 to 9.
+//! Document 01, "Refusal numbers and their order": checks 1 to 8. Number 9 is retired: request
+//! h of document 02 took its row out, and no other check gets the number.
 
 use crate::authors::{is_author_count, quorum};
 use crate::record::{decode, sum_of, Name, Vertex, MOST_RECORDS, RECORD_BYTES};
 use std::collections::BTreeSet;
+
+/// No table that passes has a higher round. By 7 and 8 a record of round r stands above 2f+1
+/// records or more in each of the r-1 rounds below, and by 3 above 4,095 records at most: with
+/// n = 4 these are three in each of 1,365 rounds.
+pub const MOST_ROUNDS: u32 = 1_366;
 
 /// A refusal with its number and the record's position.
 #[derive(Clone, Copy, Debug, PartialEq, Eq)]
@@ -45,7 +51,7 @@ pub fn check(n: u8, table: &[u8]) -> Result<(), Refusal> {
     Ok(())
 }
 
-/// The first of checks 4 to 9 that one record fails. `before` is the name of the
+/// The first of checks 4 to 8 that one record fails. `before` is the name of the
 /// record before it, `earlier` has the names of all records before it.
 fn failing(
     n: u8,
@@ -68,11 +74,6 @@ fn failing(
     }
     if !references_are_earlier(vertex, earlier) {
         return Some(8);
-    }
-    // No table gets here with such a round. By 7 and 8 every round below it has
-    // 2f+1 records or more, so 4,200 at least, and 3 allows 4,096.
-    if vertex.round > 1_400 {
-        return Some(9);
     }
     None
 }

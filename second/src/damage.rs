@@ -9,8 +9,8 @@ pub type Record = [u8; RECORD_BYTES];
 /// One fault. All leave the sums right unless said. The number is the refusal
 /// aimed at; where a fault also breaks another check, the earlier one answers.
 ///
-/// None aims at 9, as no table reaches it: a record above round 1,400 either names
-/// a record that isn't there (8), or stands on more than 4,096 records (3).
+/// None aims at 9, which is retired: a record of a far round either names a record that
+/// isn't there (8), or stands on more than 4,096 records (3).
 #[derive(Clone, Copy, Debug, PartialEq, Eq)]
 pub enum Fault {
     /// 4: only the sum is changed.

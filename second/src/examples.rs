@@ -1,9 +1,9 @@
 //! Tables made by hand, each for one sentence of document 01: its examples P2 to P14,
 //! tables on which an easy error shows, and tables with more than f equivocators.
-//! All are for n = 4. P1 is the table with no record.
+//! All are for n = 4 but the largest. P1 is the table with no record.
 
 use crate::made::{vertex, Made};
-use crate::record::{encode, sum_of};
+use crate::record::{encode, sum_of, MOST_RECORDS};
 
 // ---- P2 to P14
 
@@ -338,15 +338,8 @@ pub fn twins_through_an_anchor(twins: u32, [low, high]: [u32; 2]) -> Made {
 
 // ---- the largest
 
-/// The most rounds that a table can have: 1,365 of three records and one more.
-pub fn tallest() -> Made {
-    let mut made = Made::new(4);
-    made.some(1, &[0, 1, 2]);
-    for round in 2..=1_365 {
-        for author in 0..3 {
-            made.one(round, author, &[0, 1, 2]);
-        }
-    }
-    made.one(1_366, 0, &[0, 1, 2]);
-    made
+/// The most rounds that a table for n can have, with the most records: 2f+1 in each round but
+/// the highest, which has what is left. With n = 4 these are 1,365 rounds of three and one more.
+pub fn tallest(n: u8) -> Made {
+    Made::thin_rounds(n, MOST_RECORDS)
 }

@@ -1,7 +1,7 @@
 //! Random inputs by kind and seed.
 
 use crate::authors::{f_of, leader, AUTHOR_COUNTS};
-use crate::check::check;
+use crate::check::{check, MOST_ROUNDS};
 use crate::damage::{put, Fault, Record};
 use crate::grow::{grow, one_certificate, view, Crowd, Marks, Plan};
 use crate::program::{PROGRAM_BYTES, PROGRAM_RECORDS};
@@ -370,8 +370,8 @@ fn crowd_plan(kind: Kind, rng: &mut Rng) -> Plan {
 /// Exactly this many records, of several shapes.
 fn large_plan(records: usize, rng: &mut Rng) -> Plan {
     let n = rng.pick(&[4, 4, 4, 7, 13, 31]);
-    // More rounds than the records suffice for; the table is cut.
-    let mut plan = Plan::full(n, 1_400);
+    // The records never suffice for more rounds; the table is cut.
+    let mut plan = Plan::full(n, MOST_ROUNDS);
     plan.most_records = records;
     match rng.below(4) {
         0 => {}
@@ -463,7 +463,7 @@ pub fn bytes_of(vertices: &[Vertex]) -> Vec<u8> {
 
 /// An honest full table of exactly this many records.
 pub fn honest(n: u8, records: usize) -> Vec<u8> {
-    let mut plan = Plan::full(n, 1_400);
+    let mut plan = Plan::full(n, MOST_ROUNDS);
     plan.most_records = records;
     let vertices = grow(&plan, &mut Rng::new(1));
     bytes_of(&vertices)

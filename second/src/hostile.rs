@@ -1,6 +1,7 @@
 //! Large tables that are made to cost a settlement as much as they can.
 
 use crate::authors::{leader, quorum};
+use crate::check::MOST_ROUNDS;
 use crate::generate::bytes_of;
 use crate::grow::{grow, Crowd, Plan};
 use crate::record::{Vertex, MOST_RECORDS};
@@ -33,12 +34,12 @@ pub fn hostile(n: u8) -> Vec<Hostile> {
 }
 
 fn full(n: u8) -> Plan {
-    let mut plan = Plan::full(n, 1_400);
+    let mut plan = Plan::full(n, MOST_ROUNDS);
     plan.most_records = MOST_RECORDS;
     plan
 }
 
-/// As many rounds as the records suffice for: with n = 4, 1,365.
+/// As many rounds as the records suffice for: with n = 4, 1,366.
 fn tallest(n: u8) -> Vec<Vertex> {
     let mut plan = full(n);
     plan.absent = 100;

@@ -1,5 +1,6 @@
 //! Tables made by hand.
 
+use crate::authors::quorum;
 use crate::check::Refusal;
 use crate::program::run;
 use crate::record::{encode_mended, Vertex, ENTRIES, RECORD_BYTES};
@@ -69,14 +70,36 @@ impl Made {
         self.some(round, &all);
     }
 
+    /// The first 2f+1 authors, each referencing these (in round 1, nothing).
+    pub fn thin(&mut self, round: u32) {
+        let authors: Vec<u8> = (0..self.n).take(quorum(self.n)).collect();
+        let below: &[u8] = match round {
+            1 => &[],
+            _ => &authors,
+        };
+        for &author in &authors {
+            self.one(round, author, below);
+        }
+    }
+
     /// Full rounds, cut after so many records.
     pub fn full_rounds(n: u8, records: usize) -> Made {
+        Made::rounds(n, records, Made::full)
+    }
+
+    /// Thin rounds, cut after so many records: no more rounds can stand on each other with as
+    /// many records.
+    pub fn thin_rounds(n: u8, records: usize) -> Made {
+        Made::rounds(n, records, Made::thin)
+    }
+
+    fn rounds(n: u8, records: usize, one_more: fn(&mut Made, u32)) -> Made {
         let mut made = Made::new(n);
         for round in 1.. {
             if made.vertices.len() >= records {
                 break;
             }
-            made.full(round);
+            one_more(&mut made, round);
         }
         made.vertices.truncate(records);
         made

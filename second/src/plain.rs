@@ -28,7 +28,7 @@ pub fn check(n: u8, table: &[u8]) -> Result<(), Refusal> {
     Ok(())
 }
 
-/// The first of checks 4 to 9 that one record fails.
+/// The first of checks 4 to 8 that one record fails.
 #[inline]
 fn failing(n: u8, earlier: &[Record], record: &Record) -> Option<u8> {
     if sum_of(record) != u16_at(record, 136) {
@@ -51,7 +51,7 @@ fn failing(n: u8, earlier: &[Record], record: &Record) -> Option<u8> {
     if !all_stand(earlier, name.round, &refs[..usize::from(n)]) {
         return Some(8);
     }
-    (name.round > 1_400).then_some(9)
+    None
 }
 
 #[inline]

@@ -3,8 +3,9 @@
 use super::Attack;
 use crate::ask::Case;
 use crate::authors::AUTHOR_COUNTS;
+use crate::check::MOST_ROUNDS;
 use crate::damage::Record;
-use crate::examples::{all, p13_or_p14, p2, p7, p9, padded, supporting};
+use crate::examples::{all, p13_or_p14, p2, p7, p9, padded, supporting, tallest};
 use crate::generate::needed;
 use crate::made::{vertex, Made};
 use crate::record::{encode_mended, mend, name, Vertex, RECORD_BYTES};
@@ -373,5 +374,68 @@ fn names(attack: &mut Attack, n: u8, table: &[u8]) {
                 attack.ask_case(case);
             }
         }
+    }
+}
+
+// ---- the most rounds
+
+/// For every n the table with the most rounds, and what stands next to it. No check is left
+/// that bounds a round by itself, so here is where rounds end: 3, 8 and 10 have to answer. The
+/// tables are the largest there are, so each n has few cases.
+pub fn as_tall_as_can_be(attack: &mut Attack) {
+    for n in AUTHOR_COUNTS {
+        let made = tallest(n);
+        attack.ask(n, &made.table());
+        in_higher_rounds(attack, &made);
+        with_a_gap(attack, &made);
+        with_one_more(attack, &made);
+        in_so_many_cells(attack, &made);
+    }
+}
+
+fn last(made: &Made) -> &Vertex {
+    made.vertices.last().expect("the table has records")
+}
+
+/// The last record is put in the next round or a far one, and what it names in the round below
+/// isn't there, or not all of it: 8. 1,400 was the bound of the row that is retired. Of 65,537
+/// two bytes alone would be round 1, and no number of four bytes is above the last one.
+fn in_higher_rounds(attack: &mut Attack, made: &Made) {
+    let next = last(made).round + 1;
+    for round in [next, 1_400, 1_401, 65_537, u32::MAX] {
+        let mut higher = made.clone();
+        let end = higher.vertices.len() - 1;
+        higher.vertices[end].round = round;
+        attack.ask(higher.n, &higher.table());
+    }
+}
+
+/// Every round but the highest has just enough records, so one taken out of the middle leaves
+/// the round above it without what it names, far below where the table ends: 8.
+fn with_a_gap(attack: &mut Attack, made: &Made) {
+    let middle = last(made).round / 2;
+    attack.ask(made.n, &made.without(middle, 0).table());
+}
+
+/// The next author in the highest round, right in all but that it is one record too many: 3.
+fn with_one_more(attack: &mut Attack, made: &Made) {
+    let mut more = made.clone();
+    let mut vertex = last(made).clone();
+    vertex.author += 1;
+    more.vertices.push(vertex);
+    attack.ask(more.n, &more.table());
+}
+
+/// As many cells as rounds, one fewer (10), and as many as are enough with every n. The name is
+/// the last one, which a search comes to after all others.
+fn in_so_many_cells(attack: &mut Attack, made: &Made) {
+    let (rounds, records) = (last(made).round as usize, made.vertices.len());
+    for cells in [rounds, rounds - 1, MOST_ROUNDS as usize] {
+        attack.ask_case(Case {
+            n: made.n,
+            table: made.table(),
+            lent: filled(cells, records, records),
+            name: last(made).name(),
+        });
     }
 }

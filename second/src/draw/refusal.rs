@@ -6,22 +6,24 @@ use crate::record::{encode, sum_of, Vertex, MOST_RECORDS};
 
 /// What is wrong, of the table or of the record that the refusal is about.
 pub fn in_words(n: u8, vertices: &[Vertex], refusal: Refusal) -> String {
-    match (refusal.number, vertices.get(refusal.position)) {
-        (1, _) => format!("{n} is not one of the author counts 4, 7, 10, .. 31"),
-        (2, _) => "the length is not a multiple of 138".to_string(),
-        (3, _) => format!("{} records, more than {MOST_RECORDS}", vertices.len()),
-        (number, Some(vertex)) => {
-            let what = of_record(number, n, vertex);
-            let (round, author, mark) = (vertex.round, vertex.author, vertex.mark);
-            format!("round {round}, author {author}, mark {mark}: {what}")
+    let number = refusal.number;
+    match number {
+        1 => format!("{n} is not one of the author counts 4, 7, 10, .. 31"),
+        2 => "the length is not a multiple of 138".to_string(),
+        3 => format!("{} records, more than {MOST_RECORDS}", vertices.len()),
+        _ => {
+            let vertex = vertices.get(refusal.position);
+            let what = vertex.and_then(|vertex| of_record(number, n, vertex));
+            // No picture has another refusal today. Its number is all that is known of it.
+            what.unwrap_or_else(|| format!("check {number} fails"))
         }
-        (_, None) => String::new(),
     }
 }
 
-/// What is wrong with a record, by the number of the check.
-fn of_record(number: u8, n: u8, vertex: &Vertex) -> String {
-    match number {
+/// Which record it is and what is wrong with it, by the number of the check; nothing for a
+/// number that is not about a record.
+fn of_record(number: u8, n: u8, vertex: &Vertex) -> Option<String> {
+    let what = match number {
         4 => {
             let right = sum_of(&encode(vertex));
             format!("the sum is {} and ought to be {right}", vertex.sum)
@@ -30,8 +32,12 @@ fn of_record(number: u8, n: u8, vertex: &Vertex) -> String {
         6 => "the name is not above the one before it".to_string(),
         7 => of_entries(n, vertex),
         8 => "a reference names no record earlier in the table".to_string(),
-        _ => "the round is above 1,400".to_string(),
-    }
+        _ => return None,
+    };
+    let (round, author, mark) = (vertex.round, vertex.author, vertex.mark);
+    Some(format!(
+        "round {round}, author {author}, mark {mark}: {what}"
+    ))
 }
 
 fn of_fields(n: u8, vertex: &Vertex) -> String {

@@ -36,22 +36,29 @@ impl<F: FnMut(&Question) -> bool> Shrinking<F> {
     fn take(&mut self, step: Step) -> bool {
         let mut passed_over = 0;
         let mut smaller = false;
-        loop {
-            let before = self.smallest.clone();
-            let mut changes = step(&before).skip(passed_over);
-            match changes.find(|changed| {
-                passed_over += 1;
-                self.still_differs(changed)
-            }) {
-                None => return smaller,
-                Some(changed) => {
-                    self.smallest = changed;
-                    smaller = true;
-                    // What stands at this place of the list now has not been tried.
-                    passed_over -= 1;
-                }
+        while let Some(changed) = self.next(step, &mut passed_over) {
+            self.smallest = changed;
+            smaller = true;
+            // What stands at this place of the list now has not been tried.
+            passed_over -= 1;
+        }
+        smaller
+    }
+
+    /// The next change on which the answers still differ.
+    fn next(&mut self, step: Step, passed_over: &mut usize) -> Option<Question> {
+        let before = self.smallest.clone();
+        let mut changes = step(&before).skip(*passed_over);
+        // A table of 4,096 records has thousands of changes, each a copy of it. They are not
+        // made where none can be asked.
+        while self.left > 0 {
+            let changed = changes.next()?;
+            *passed_over += 1;
+            if self.still_differs(&changed) {
+                return Some(changed);
             }
         }
+        None
     }
 
     fn still_differs(&mut self, changed: &Question) -> bool {

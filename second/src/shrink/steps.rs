@@ -3,6 +3,7 @@
 
 use super::question::{change, Question};
 use crate::authors::{is_author_count, AUTHOR_COUNTS};
+use crate::check::MOST_ROUNDS;
 use crate::record::{encode, sum_of, Name, Vertex};
 use std::collections::BTreeSet;
 use std::iter::successors;
@@ -84,8 +85,9 @@ fn without(question: &Question, range: Range<usize>) -> Question {
 /// so that leaders stay leaders.
 fn lower_rounds(question: &Question) -> Changes<'_> {
     let highest = question.vertices.iter().map(|vertex| vertex.round).max();
-    let can =
-        is_author_count(question.n) && highest.is_some_and(|round| (2..=1_400).contains(&round));
+    // From a far round there is no end of steps, and no table passes with one.
+    let can = is_author_count(question.n)
+        && highest.is_some_and(|round| (2..=MOST_ROUNDS).contains(&round));
     let lowered = can.then(|| question.with(lower));
     Box::new(lowered.into_iter())
 }

@@ -1,8 +1,8 @@
 //! Named tables and lookups, each with the answer of the rules: the stored files
 //! on which the program `vectors` is run.
 //!
-//! None aims at 9, as no table reaches it: a record above round 1,400 either names
-//! a record that isn't there (8), or stands on more than 4,096 records (3).
+//! None aims at 9, which is retired: a record of a far round either names a record that
+//! isn't there (8), or stands on more than 4,096 records (3).
 
 mod settlements;
 
@@ -387,6 +387,7 @@ fn first_answers() -> Vec<Vector> {
             few(v);
             unnamed(v);
         }),
+        // A far round. The name is from when 9 was for one above 1,400; stored files keep theirs.
         with("8_before_9", LAST, |v| v.round = 1_401),
         checked(
             "8_before_4_of_the_next",

@@ -7,7 +7,7 @@ use second::attack::attack_by;
 use second::compare::compare;
 
 /// How many cases differ in the families with these words in their names.
-fn differ(calls: &Calls, words: &[&str]) -> u64 {
+pub fn differ(calls: &Calls, words: &[&str]) -> u64 {
     let wanted = |name: &str| words.iter().any(|&word| name.contains(word));
     let attack = attack_by(calls, wanted);
     assert!(attack.passed() + attack.failed() > 0);

@@ -1,5 +1,6 @@
 //! What must hold of every generated table.
 
+use second::authors::quorum;
 use second::check::check;
 use second::generate::{bytes_of, input, lent, question, table, Kind};
 use second::made::{prints, settled, Settled};
@@ -64,6 +65,18 @@ fn the_generator_of_numbers_is_the_known_one() {
     assert_eq!(rng.draw(), 0xE220_A839_7B1D_CDAF);
     assert_eq!(rng.draw(), 0x6E78_9E6A_A1B9_65F4);
     assert_eq!(rng.draw(), 0x06C4_5D18_8009_454F);
+}
+
+/// Each round below a record's own has 2f+1 records or more, which all come before it. This is
+/// what bounds rounds.
+#[test]
+fn rounds_stand_on_2f_and_1_records_each() {
+    for (kind, seed, n, table) in passing_tables(60) {
+        for (position, vertex) in vertices(&table).iter().enumerate() {
+            let below = vertex.round as usize - 1;
+            assert!(below * quorum(n) <= position, "{kind:?} {seed} {position}");
+        }
+    }
 }
 
 /// Nothing is written twice, all that a written vertex references is written

@@ -7,6 +7,7 @@ mod drawn;
 mod easy_errors;
 mod examples;
 mod generated;
+mod nine;
 mod past_f;
 mod plain;
 mod refusals;

@@ -122,9 +122,10 @@ fn eight() {
     assert_eq!(checked(&made), Err(refusal(8, 7)));
 }
 
-/// Rounds above 1,400 are refused by 8 before 9 is asked.
+/// No check is left that bounds a round, 9 is retired: a far round is refused by 8, since the
+/// round below it isn't there.
 #[test]
-fn nine_is_not_reached() {
+fn eight_for_far_rounds() {
     for round in [1_400, 1_401, 65_537, u32::MAX] {
         assert_eq!(changed(11, |v| v.round = round), Err(refusal(8, 11)));
         let mut alone = Made::new(4);

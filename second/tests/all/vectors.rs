@@ -46,8 +46,8 @@ fn names_are_words() {
     assert!(names.iter().all(|name| name.chars().all(letter)));
 }
 
-/// Every refusal but 9, which no table reaches, and 12, which only the program gives;
-/// those about a record at the first that can have it, at a middle one and at the last.
+/// Every refusal but 12, which only the program gives; those about a record at the first
+/// that can have it, at a middle one and at the last. 9 is retired.
 #[test]
 fn every_refusal_is_given() {
     let given: BTreeSet<(u8, usize)> = vectors()

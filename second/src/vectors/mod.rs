@@ -387,8 +387,8 @@ fn first_answers() -> Vec<Vector> {
             few(v);
             unnamed(v);
         }),
-        // A far round. The name is from when 9 was for one above 1,400; stored files keep theirs.
-        with("8_before_9", LAST, |v| v.round = 1_401),
+        // Far above all that is there, and above the bound of the row that is retired.
+        with("8_for_round_1401", LAST, |v| v.round = 1_401),
         checked(
             "8_before_4_of_the_next",
             4,

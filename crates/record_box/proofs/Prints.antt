@@ -2,20 +2,19 @@
 -- Assumes nothing.
 use Prim.Native.Nat.{ℕ, _≤_}
 use mathlib.Core.Path.{_≡_, ap, _∙_}
-use mathlib.Core.Bool.{true, false}
+use mathlib.Core.Bool.{false}
 use mathlib.Core.List.{List}
 use native.Mathlib.Omega.{arith}
 use lib.Dec.{ltb}
 use lib.ListN.{length, length-drop}
 use borrow.Author.Tests.{ltb-false}
-use Rattle.folds.proofs.Tests.{by-test}
 use Rattle.rules.specs.Refusals.{refusal, _when_, _then_}
 use Rattle.rules.specs.Record.{first, vertices}
 use Rattle.rules.specs.Check.{check}
 use Rattle.rules.specs.Decide.{boxSetting}
 use Rattle.rules.specs.Settlement.{Buffers, tooShort, lentCheck}
 use Rattle.rules.specs.Program.{lines, holds, printed}
-use Rattle.rules.proofs.Refusals.{when-no, then-idle}
+use Rattle.rules.proofs.Refusals.{when-no, when-passed, then-same, then-idle}
 use Rattle.rules.proofs.Accepted.{accepted}
 use Rattle.report.specs.Output.{output}
 use Rattle.report.proofs.Printed.{output-is}
@@ -30,16 +29,10 @@ never-lent n t b l h = then-idle _ _ (λ ok. when-no _ _ (long-enough n t b (acc
 -- So the checks are those that the program makes.
 checked-is : (input : List ℕ) (b : Buffers) → Held b
     → checked input b ≡ refusal 12 0 when ltb holds (length input) then check first (authorsIn input) (tableIn input)
-unfolding checked lentCheck _when_ _then_
-checked-is input b h = by-test (ltb holds (length input)) long fits
-  where
-    long : ltb holds (length input) ≡ true → checked input b ≡ refusal 12 0 when ltb holds (length input) then check first (authorsIn input) (tableIn input)
-    long e = rw e
-
-    fits : ltb holds (length input) ≡ false → checked input b ≡ refusal 12 0 when ltb holds (length input) then check first (authorsIn input) (tableIn input)
-    fits e =
-        let l : length (tableIn input) ≤ 65412 = simp length-drop (omega (arith, ltb-false holds (length input) e)) in
-        ap (λ c. refusal 12 0 when ltb holds (length input) then c) (never-lent (authorsIn input) (tableIn input) b l h)
+unfolding checked lentCheck
+checked-is input b h = then-same _ _ _ (λ e.
+    let l : length (tableIn input) ≤ 65412 = simp length-drop (omega (arith, ltb-false holds (length input) (when-passed _ _ _ e))) in
+    never-lent (authorsIn input) (tableIn input) b l h)
 
 -- The lines of the answer are the output.
 pub prints : (input : List ℕ) (b : Buffers) → Held b

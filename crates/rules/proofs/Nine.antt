@@ -9,7 +9,6 @@ use native.Mathlib.Omega.{arith}
 use lib.Seq.{length-take-le, getD-take}
 use borrow.Author.Tests.{ltb-false, le-ltb}
 use Rattle.folds.proofs.Tests.{not-false}
-use Rattle.rules.specs.declared.Vertex.{Vertex}
 use Rattle.rules.specs.Authors.{isCount}
 use Rattle.rules.specs.Record.{Edition, records, vertices, noVertex, at}
 use Rattle.rules.specs.Refusals.{passed, eachTo}
@@ -21,20 +20,16 @@ use Rattle.rules.proofs.Refusals.{when-no, when-passed, then-same, each
 use Rattle.rules.proofs.Front.{accepted-front}
 use Rattle.rules.proofs.Rounds.{round-most, most-rounds}
 
-module _ (E : Edition) (n : ℕ) (t : List ℕ) (count : isCount n ≡ true) (few : records E t ≤ 4096) where
-  abbrev vs : List Vertex
-  vs = vertices E t
-
-  round-low : (p : ℕ) → p < records E t → eachTo (checkRecord E n t vs) (suc p) ≡ passed → at vs p .round ≤ 1366
-  round-low p l e =
-      let size = length-take-le (suc p) vs (rw (vertices-length E t) l) in
-      let most = round-most (accepted-front E n t (suc p) count l e) (omega (arith, size)) p (omega (arith, size)) in
-      let low : at vs p .round ≤ mostRounds n = rw (getD-take (suc p) vs p noVertex (omega arith)) at most in
-      omega (arith, most-rounds n count)
-
-  never : (p : ℕ) → p < records E t → eachTo (checkRecord E n t vs) (suc p) ≡ passed → roundAbove (at vs p) ≡ false
-  unfolding roundAbove
-  never p l e = le-ltb limit9 (at vs p .round) (omega (arith, round-low p l e))
+-- a record that all rows have passed, with all before it, is in a round that row 9 lets through
+never : (E : Edition) (n : ℕ) (t : List ℕ) → isCount n ≡ true → records E t ≤ 4096 → (p : ℕ) → p < records E t
+    → eachTo (checkRecord E n t (vertices E t)) (suc p) ≡ passed → roundAbove (at (vertices E t) p) ≡ false
+unfolding roundAbove
+never E n t count few p l e =
+    let vs = vertices E t in
+    let size = length-take-le (suc p) vs (rw (vertices-length E t) l) in
+    let most = round-most (accepted-front E n t (suc p) count l e) (omega (arith, size)) p (omega (arith, size)) in
+    let low : at vs p .round ≤ mostRounds n = rw (getD-take (suc p) vs p noVertex (omega arith)) at most in
+    le-ltb limit9 (at vs p .round) (omega (arith, low, most-rounds n count))
 
 pub nine-never : (E : Edition) (n : ℕ) (t : List ℕ) → checkWith9 E n t ≡ check E n t
 unfolding checkWith9 check checkTable checkRecordWith9

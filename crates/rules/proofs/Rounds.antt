@@ -2,18 +2,18 @@
 -- so the record at p has 2f+1 records before it for each round below its own, and a table has at most `mostRounds` rounds.
 -- Assumes nothing.
 use Prim.Native.Nat.{ℕ, zero, suc, pred, _+_, _-_, _*_, _/_, _≤_, _<_, zero-le}
-use mathlib.Core.Path.{_≡_, refl, ap, _∙_}
-use mathlib.Core.Logic.{_⊎_, inl, inr, _≢_}
+use mathlib.Core.Path.{_≡_, refl, sym, ap, _∙_}
+use mathlib.Core.Logic.{⊎-elim, _≢_}
 use mathlib.Core.Bool.{true}
 use mathlib.Core.List.{List, [], _∷_, map}
 use native.Mathlib.Omega.{arith}
-use native.Mathlib.Nat.{suc-mul, le-mul-of-pos-right, le-div-iff-mul-le, div-le-of-le-mul}
+use native.Mathlib.Nat.{eq-or-lt-of-le, suc-mul, le-mul-of-pos-right, le-div-iff-mul-le, div-le-of-le-mul}
 use lib.Dec.{ltb}
 use lib.ListN.{length, List·getD-eq-default}
 use borrow.Author.Tests.{eqb-false, ltb-true, ltb-false}
 use Rattle.folds.specs.Folds.{countTo}
 use Rattle.folds.specs.Many.{Many}
-use Rattle.folds.proofs.Tests.{by-test, not-true, compare}
+use Rattle.folds.proofs.Tests.{by-test, not-true}
 use Rattle.folds.proofs.Laws.{count-places}
 use Rattle.folds.proofs.Quorum.{some-of, many-map}
 use Rattle.rules.specs.declared.Vertex.{Vertex}
@@ -58,10 +58,8 @@ module _ {n : ℕ} {vs : List Vertex} (A : Accepted n vs) where
   down-to zero p r l pos e = one-below p r l pos (omega arith)
   down-to (suc k) p r l pos e =
       let w = some-of n (quorum n) (HasBefore p (r + k + 1)) (omega arith) (one-below p (r + k + 1) l (omega arith) (omega arith)) in
-      let q = w .2 .0 in
-      let lower : q < p = w .2 .1 in
-      many-map n (quorum n) (HasBefore q r) (HasBefore p r) (λ a la b. (b .0, omega (arith, b .1, lower), b .2, b .3))
-      (down-to k q r (omega (arith, lower)) pos (w .2 .2))
+      many-map n (quorum n) (HasBefore (w .2 .0) r) (HasBefore p r) (λ a la b. (b .0, omega (arith, b .1, w .2 .1), b .2, b .3))
+      (down-to k (w .2 .0) r (omega (arith, w .2 .1)) pos (w .2 .2))
 
   -- below the round of a record each round has records of at least 2f+1 authors, all earlier
   pub each-below : (p r : ℕ) → p < length vs → 0 < r → r < at vs p .round → Many n (quorum n) (HasBefore p r)
@@ -71,12 +69,9 @@ module _ {n : ℕ} {vs : List Vertex} (A : Accepted n vs) where
 
   -- of two records the one with the lower name stands first
   lower-first : (p q : ℕ) → p < length vs → Below (nameOf (at vs p)) (nameOf (at vs q)) → p < q
-  lower-first p q l b = first (compare p q)
-    where
-      first : (p < q) ⊎ ((p ≡ q) ⊎ (q < p)) → p < q
-      first (inl h) = h
-      first (inr (inl e)) = absurd (below-irrefl _ _ (ap (λ k. nameOf (at vs k)) e) b)
-      first (inr (inr h)) = absurd (below-irrefl _ _ refl (below-trans _ _ _ b (rising A q p h l)))
+  lower-first p q l b =
+      by-test (ltb p q) (λ e. ltb-true p q e) (λ e. absurd (⊎-elim (λ h. below-irrefl _ _ (ap (λ k. nameOf (at vs k)) (sym h)) b)
+      (λ h. below-irrefl _ _ refl (below-trans _ _ _ b (rising A q p h l))) (eq-or-lt-of-le (ltb-false p q e))))
 
   -- what the entries of a record name stands in the order of its authors
   names-rise : (p i j : ℕ) → p < length vs → i < j → entry (at vs p) i ≢ 0 → entry (at vs p) j ≢ 0
@@ -103,7 +98,7 @@ module _ {n : ℕ} {vs : List Vertex} (A : Accepted n vs) where
   pub rounds-below : (p : ℕ) → p < length vs → (at vs p .round - 1) * quorum n ≤ p
   rounds-below p l = before-count (at vs p .round - 1) p l (omega (arith, round-pos A p l))
 
-  -- so there are no more rounds than records, and of 4,096 records no more than `mostRounds`
+  -- so there are no more rounds than records, and of 4,096 records none is in a round above `mostRounds`
   pub rounds-few : highest vs ≤ length vs
   rounds-few = highest-has vs (λ r. r ≤ length vs) zero-le (λ p l.
       let h : at vs p .round - 1 ≤ (at vs p .round - 1) * quorum n = le-mul-of-pos-right _ (omega arith) in
@@ -114,9 +109,6 @@ module _ {n : ℕ} {vs : List Vertex} (A : Accepted n vs) where
       let h : at vs p .round - 1 ≤ (4096 - 1) / quorum n =
       le-div-iff-mul-le {k = quorum n} {x = at vs p .round - 1} {y = 4096 - 1} (omega arith) .1 (omega (arith, rounds-below p l)) in
       omega arith
-
-  pub rounds-most : length vs ≤ 4096 → highest vs ≤ mostRounds n
-  rounds-most few = highest-has vs (λ r. r ≤ mostRounds n) zero-le (round-most few)
 
 -- ---- the bound for each count, and for all
 
@@ -132,4 +124,5 @@ most-rounds n c =
 
 -- every table that passes
 pub table-rounds : (E : Edition) (n : ℕ) (t : List ℕ) → check E n t ≡ passed → highest (vertices E t) ≤ mostRounds n
-table-rounds E n t ok = rounds-most (accepted E n t ok) (rw (vertices-length E t) (check-passed E n t ok .few))
+table-rounds E n t ok =
+    highest-has (vertices E t) (λ r. r ≤ mostRounds n) zero-le (round-most (accepted E n t ok) (rw (vertices-length E t) (check-passed E n t ok .few)))

@@ -14,14 +14,15 @@ use Rattle.rules.proofs.Accepted.{check-passed, accepted}
 use Rattle.rules.proofs.Rounds.{most-rounds, table-rounds}
 use Rattle.decide.specs.Ready.{Sound, Ready}
 
-pub sound : (E : Edition) (n : ℕ) (t : List ℕ) → check E n t ≡ passed → Sound E n t
-sound E n t ok =
-    let P = check-passed E n t ok in
-    record {
-      accepted = accepted E n t ok;
-      few = rw (vertices-length E t) (P .few);
-      rounds = le-trans (table-rounds E n t ok) (most-rounds n (P .count));
-    }
+module _ (E : Edition) (n : ℕ) (t : List ℕ) (ok : check E n t ≡ passed) where
+  pub sound : Sound E n t
+  sound =
+      let P = check-passed E n t ok in
+      record {
+        accepted = accepted E n t ok;
+        few = rw (vertices-length E t) (P .few);
+        rounds = le-trans (table-rounds E n t ok) (most-rounds n (P .count));
+      }
 
 -- other work bytes, as many, are as good
 pub ready-on : {E : Edition} {n : ℕ} {t old new : List ℕ} → Ready E n t old → length new ≡ length old → Ready E n t new

@@ -44,11 +44,8 @@ not-short C vs b cells order taken = or-false _ _ (le-ltb _ _ cells) (or-false _
 -- who lends enough for every table is refused for what the check refuses, and never with 10
 pub enough-lent : (E : Edition) (n : ℕ) (t : List ℕ) (b : Buffers) → Enough b → lentCheck (boxSetting n) E n t b ≡ check E n t
 unfolding lentCheck
-enough-lent E n t b h = then-idle _ _ (λ ok. when-no _ _ (fits ok))
-  where
-    fits : check E n t ≡ passed → tooShort (boxSetting n) (vertices E t) b ≡ false
-    fits ok =
-        let P = check-passed E n t ok in
-        let few : length (vertices E t) ≤ 4096 = rw (vertices-length E t) (P .few) in
-        let low : highest (vertices E t) ≤ 1366 = le-trans (table-rounds E n t ok) (most-rounds n (P .count)) in
-        not-short (boxSetting n) (vertices E t) b (omega (arith, low, h .cells)) (omega (arith, few, h .order)) (omega (arith, few, h .taken))
+enough-lent E n t b h = then-idle _ _ (λ ok.
+    let P = check-passed E n t ok in
+    let few : length (vertices E t) ≤ 4096 = rw (vertices-length E t) (P .few) in
+    let low : highest (vertices E t) ≤ 1366 = le-trans (table-rounds E n t ok) (most-rounds n (P .count)) in
+    when-no _ _ (not-short (boxSetting n) (vertices E t) b (omega (arith, low, h .cells)) (omega (arith, few, h .order)) (omega (arith, few, h .taken))))

@@ -5,7 +5,7 @@ use lib.ListN.{length}
 use Rattle.rules.specs.Authors.{quorum}
 use Rattle.rules.specs.Settlement.{Buffers}
 
--- The highest round that a table of n authors can have: one record stands there, and 2f+1 in each round below, 4,096 in all.
+-- The highest round that a table of n authors can have: one record stands there and at least 2f+1 in each round below, of 4,096 at most.
 abbrev pub mostRounds : ℕ → ℕ
 mostRounds n = (4096 - 1) / quorum n + 1
 

@@ -92,6 +92,6 @@ pub record Base : Type 2 where
   -- request h: with row 9 in its place the check answers the same, and no refusal has that number
   pub nine-never : (n : ℕ) (t : List ℕ) → checkWith9 first n t ≡ check first n t
   pub nine-retired : (r : Refusal) → rowOf r .number ≢ 9
-  -- how many rounds a table has at most; and who lends enough for that is refused for what the check refuses, never with 10
+  -- how many rounds a table has at most; and who lends enough for that is refused for what the check refuses, which has no row 10
   pub rounds : (n : ℕ) (t : List ℕ) → check first n t ≡ passed → highest (vertices first t) ≤ mostRounds n
   pub enough : (n : ℕ) (t : List ℕ) (b : Buffers) → Enough b → lentCheck (boxSetting n) first n t b ≡ check first n t

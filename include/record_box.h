@@ -30,13 +30,13 @@ extern "C" {
 /*
  * The version of what stands here. It goes up by one when any of it changes. A header and a library of one version
  * belong together: compile anew with each.
- *   - A number is never used again for something else. What one number tells may be told by several later, and a number
- *     may no longer be given: since version 2 that is 9.
+ *   - A number is never used again for something else. What one number tells may be told by several later (since version 3
+ *     5 tells padding only), and a number may no longer be given: since version 2 that is 9.
  *   - New numbers may come. Take a number that is not known as a refusal.
  *   - What suffices for every table may change, as to fewer cells: lend by the constants below and not by figures of your own.
  *   - Calls may come, and a struct may get more members.
  */
-#define RECORD_BOX_VERSION 2
+#define RECORD_BOX_VERSION 3
 
 /* A record's size in bytes, and the most records of a table: a table is at most 565,248 bytes. */
 #define RECORD_BOX_RECORD_BYTES 138
@@ -51,24 +51,27 @@ extern "C" {
 #define RECORD_BOX_ENOUGH_TAKEN 4096
 
 /*
- * What a call is refused for. The first failing check answers: 1 to 3 in that order, then 4 to 8 in order on each record
- * in turn. The position is that of the record, counted from 0, and 0 for 1, 2, 3, 10, 11 and 12.
+ * What a call is refused for. The first failing check answers: 1, 2, 3 in that order, then 4, 5, 18, 19, 20, 6, 7, 8 in that
+ * order on each record in turn. The position is that of the record, counted from 0, and 0 for 1, 2, 3, 10, 11 and 12.
  * 9 is retired: it stood for a round above 1,400, which no table of 4,096 records has. No call gives it, and it will never
  * stand for anything else.
  */
 enum record_box_number {
-    RECORD_BOX_NONE = 0,     /* nothing is refused: the table passes or is settled, or the name is found */
-    RECORD_BOX_AUTHORS = 1,  /* n is none of 4, 7, 10, .. 31 */
-    RECORD_BOX_LENGTH = 2,   /* the length is not a multiple of 138 */
-    RECORD_BOX_RECORDS = 3,  /* more than 4,096 records */
-    RECORD_BOX_SUM = 4,      /* the sum differs */
-    RECORD_BOX_FIELDS = 5,   /* padding not zero, or round 0, or mark 0, or author n or more */
-    RECORD_BOX_RISING = 6,   /* the name is not above the one before it, by round, then author, then mark */
-    RECORD_BOX_ENTRIES = 7,  /* round 1 with an entry; or an entry for author n or more; or round above 1 with fewer than 2f+1 */
-    RECORD_BOX_EARLIER = 8,  /* some entry names no record earlier in the table */
-    RECORD_BOX_LENT = 10,    /* settlement only: a lent buffer is too short */
-    RECORD_BOX_UNNAMED = 11, /* lookup only: no record has the name */
-    RECORD_BOX_INPUT = 12    /* the program only: its input is longer than it holds */
+    RECORD_BOX_NONE = 0,        /* nothing is refused: the table passes or is settled, or the name is found */
+    RECORD_BOX_AUTHORS = 1,     /* n is none of 4, 7, 10, .. 31 */
+    RECORD_BOX_LENGTH = 2,      /* the length is not a multiple of 138 */
+    RECORD_BOX_RECORDS = 3,     /* more than 4,096 records */
+    RECORD_BOX_SUM = 4,         /* the sum differs */
+    RECORD_BOX_PADDING = 5,     /* padding not zero, and nothing else */
+    RECORD_BOX_RISING = 6,      /* the name is not above the one before it, by round, then author, then mark */
+    RECORD_BOX_ENTRIES = 7,     /* round 1 with an entry; or an entry for author n or more; or round above 1 with fewer than 2f+1 */
+    RECORD_BOX_EARLIER = 8,     /* some entry names no record earlier in the table */
+    RECORD_BOX_LENT = 10,       /* settlement only: a lent buffer is too short */
+    RECORD_BOX_UNNAMED = 11,    /* lookup only: no record has the name */
+    RECORD_BOX_INPUT = 12,      /* the program only: its input is longer than it holds */
+    RECORD_BOX_ROUND_ZERO = 18, /* round 0 */
+    RECORD_BOX_MARK_ZERO = 19,  /* mark 0 */
+    RECORD_BOX_AUTHOR_PAST = 20 /* author n or more */
 };
 
 /* A number of the list above and a position; 0 and 0 where nothing is refused. */
@@ -97,7 +100,7 @@ struct record_box_settled {
     size_t equivocators; /* how many authors have two records in some one round of this table: docs/GUIDE.md on its use */
 };
 
-/* Checks a table of table_length bytes (not records). Number 0 (passed) to 8. */
+/* Checks a table of table_length bytes (not records). Number 0 (passed), 1 to 8, or 18 to 20. */
 struct record_box_answer record_box_check(uint8_t n, const uint8_t *table, size_t table_length);
 
 /*
@@ -107,13 +110,13 @@ struct record_box_answer record_box_check(uint8_t n, const uint8_t *table, size_
 struct record_box_part record_box_lookup(uint8_t n, const uint8_t *table, size_t table_length, uint32_t round,
                                          uint8_t author, uint32_t mark);
 
-/* Why there is no such record: number 0 (found), 1 to 8 (the table is refused) or 11 (no such name). */
+/* Why there is no such record: number 0 (found), 1 to 8 or 18 to 20 (the table is refused), or 11 (no such name). */
 struct record_box_answer record_box_lookup_answer(uint8_t n, const uint8_t *table, size_t table_length, uint32_t round,
                                                   uint8_t author, uint32_t mark);
 
 /*
- * Settles a table. It checks the table first. Number 0 (settled), 1 to 8 (the table is refused) or 10 (a lent buffer is too
- * short).
+ * Settles a table. It checks the table first. Number 0 (settled), 1 to 8 or 18 to 20 (the table is refused), or 10 (a lent
+ * buffer is too short).
  *
  * The caller lends three buffers and owns them throughout. Lengths count elements. A settled table needs at least
  *   cells   as many as its highest round: cells[r - 1] becomes the decision of round r, 0 undecided, 1 skipped, 2 + p if the

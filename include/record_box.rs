@@ -7,7 +7,7 @@
 //     extern "C" {}
 
 /// The version of the header that this file belongs to.
-pub const VERSION: u32 = 2;
+pub const VERSION: u32 = 3;
 
 /// A record's size in bytes, the most records of a table, and what suffices to settle every table.
 pub const RECORD_BYTES: usize = 138;

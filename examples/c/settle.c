@@ -52,20 +52,29 @@ static const char *in_words(uint32_t number) {
     case RECORD_BOX_LENGTH: return "the length is not a multiple of 138 bytes";
     case RECORD_BOX_RECORDS: return "there are more than 4,096 records";
     case RECORD_BOX_SUM: return "the record's sum differs: it was damaged on the way or in store";
-    case RECORD_BOX_FIELDS: return "the record's padding, round, mark or author is one that no record has";
+    case RECORD_BOX_PADDING: return "the record's padding is not zero: replace the card";
     case RECORD_BOX_RISING: return "the record's name is not above the one before it";
     case RECORD_BOX_ENTRIES: return "the record has references where it may have none, or fewer than 2f+1";
     case RECORD_BOX_EARLIER: return "the record references a vertex that is not in the table before it";
     case RECORD_BOX_LENT: return "a lent buffer is too short for this table";
     case RECORD_BOX_UNNAMED: return "no record has that name";
     case RECORD_BOX_INPUT: return "the input is longer than this program holds";
+    case RECORD_BOX_ROUND_ZERO: return "the record's round is 0: call its author's owner";
+    case RECORD_BOX_MARK_ZERO: return "the record's mark is 0: call its author's owner";
+    case RECORD_BOX_AUTHOR_PAST: return "the record's author is not one of the n: call its owner";
     default: return "the number is not known";
     }
 }
 
+/* Whether a number is told of a record, so that its position says which. */
+static int of_record(uint32_t number) {
+    return (number >= RECORD_BOX_SUM && number <= RECORD_BOX_EARLIER)
+        || (number >= RECORD_BOX_ROUND_ZERO && number <= RECORD_BOX_AUTHOR_PAST);
+}
+
 static int refuse(uint32_t number, size_t position) {
     printf("X %" PRIu32 " %zu\n", number, position);
-    if (number >= RECORD_BOX_SUM && number <= RECORD_BOX_EARLIER) {
+    if (of_record(number)) {
         fprintf(stderr, "settle: record %zu: ", position);
     } else {
         fprintf(stderr, "settle: ");

@@ -141,13 +141,16 @@ fn in_words(number: u32) -> &'static str {
         2 => "the length is not a multiple of 138 bytes",
         3 => "there are more than 4,096 records",
         4 => "the record's sum differs: it was damaged on the way or in store",
-        5 => "the record's padding, round, mark or author is one that no record has",
+        5 => "the record's padding is not zero: replace the card",
         6 => "the record's name is not above the one before it",
         7 => "the record has references where it may have none, or fewer than 2f+1",
         8 => "the record references a vertex that is not in the table before it",
         10 => "a lent buffer is too short for this table",
         11 => "no record has that name",
         12 => "the input is longer than this program holds",
+        18 => "the record's round is 0: call its author's owner",
+        19 => "the record's mark is 0: call its author's owner",
+        20 => "the record's author is not one of the n: call its owner",
         _ => "the number is not known",
     }
 }
@@ -276,7 +279,7 @@ fn main() -> ExitCode {
         Err(Refusal { number, position }) => {
             println!("X {number} {position}");
             match number {
-                4..=8 => eprintln!("settle: record {position}: {}", in_words(number)),
+                4..=8 | 18..=20 => eprintln!("settle: record {position}: {}", in_words(number)),
                 _ => eprintln!("settle: {}", in_words(number)),
             }
             ExitCode::from(1)

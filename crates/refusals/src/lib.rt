@@ -25,12 +25,15 @@ pub fn number_of(why: Refusal) -> Numbered
         Refusal::Length => at(2, 0),
         Refusal::Records => at(3, 0),
         Refusal::Sum { position } => at(4, position),
-        Refusal::Fields { position } => at(5, position),
+        Refusal::Padding { position } => at(5, position),
         Refusal::Rising { position } => at(6, position),
         Refusal::Entries { position } => at(7, position),
         Refusal::Earlier { position } => at(8, position),
         Refusal::Lent => at(10, 0),
         Refusal::Unnamed => at(11, 0),
         Refusal::Input => at(12, 0),
+        Refusal::RoundZero { position } => at(18, position),
+        Refusal::MarkZero { position } => at(19, position),
+        Refusal::AuthorPast { position } => at(20, position),
     }
 }

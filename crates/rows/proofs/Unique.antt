@@ -3,13 +3,14 @@
 -- Assumes nothing.
 use mathlib.Core.Path.{_≡_, sym, _∙_}
 use Rattle.rules.proofs.Only.{Only}
-use Rattle.rows.proofs.fields_wrong.Kinds as fields-wrong-kinds
-use Rattle.rows.proofs.fields_wrong.Reads as fields-wrong
+use Rattle.rules.proofs.Refusals as refusals
+use Rattle.rows.proofs.check_fields.Kinds as check-fields-kinds
+use Rattle.rows.proofs.check_fields.Reads as check-fields
 use Rattle.rows.proofs.entries_wrong.Kinds as entries-wrong-kinds
 use Rattle.rows.proofs.entries_wrong.Reads as entries-wrong
 
-pub fields-wrong-unique : Only 0 fields-wrong-kinds.ps fields-wrong-kinds.r (λ κs x e y f. x ≡ y) fields-wrong.Post
-fields-wrong-unique κs a x y e f p q = p ∙ sym q
+pub check-fields-unique : Only 0 check-fields-kinds.ps check-fields-kinds.r (λ κs x e y f. x ≡ y) check-fields.Post
+check-fields-unique κs a x y e f p q = refusals.check-unique x y (p ∙ sym q)
 
 pub entries-wrong-unique : Only 0 entries-wrong-kinds.ps entries-wrong-kinds.r (λ κs x e y f. x ≡ y) entries-wrong.Post
 entries-wrong-unique κs a x y e f p q = p ∙ sym q

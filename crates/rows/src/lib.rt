@@ -1,34 +1,38 @@
-// Rows of the check that look at one decoded record by itself: 5 and 7.
+// Rows of the check that look at one decoded record by itself: 5, 18, 19 and 20, which tell which field is wrong, and 7.
 ghost use mathlib.Core.Path.{_≡_};
 ghost use mathlib.Core.Bool.{not};
 ghost use Prim.Native.Nat.{_≤_};
 ghost use lib.Dec.{eqb};
 ghost use lib.ListN.{getD};
 ghost use Rattle.folds.specs.Folds.{countTo};
-ghost use Rattle.rules.specs.Check.{fieldsWrong, entriesWrong};
+ghost use Rattle.rules.specs.Refusals.{checkTells};
+ghost use Rattle.rules.specs.Check.{entriesWrong};
+ghost use Rattle.rows.specs.Fields.{checkFields};
+use rules::Checked;
+use rules::Refusal;
 use rules::Vertex;
 use tally::quorum_of;
 use tally::smaller;
 
 const ENTRIES: usize = 31;
 
-// Row 5.
-pub fn fields_wrong(n: u8, v: Vertex) -> bool
-    ensures { λ r. ⌜ r ≡ fieldsWrong n v ⌝ }
+// Rows 5, 18, 19 and 20 of the record at p. Padding comes first, since it speaks of the card; the others speak of the author.
+pub fn check_fields(n: u8, p: usize, v: Vertex) -> Checked
+    ensures { λ r. ⌜ checkTells r ≡ checkFields n p v ⌝ }
 {
     if v.padding != 0 {
-        return true;
+        return Checked::Refused(Refusal::Padding { position: p });
     }
     if v.round == 0 {
-        return true;
+        return Checked::Refused(Refusal::RoundZero { position: p });
     }
     if v.mark == 0 {
-        return true;
+        return Checked::Refused(Refusal::MarkZero { position: p });
     }
     if v.author < n {
-        return false;
+        return Checked::Passed;
     }
-    true
+    Checked::Refused(Refusal::AuthorPast { position: p })
 }
 
 // How many of the first k entries are references.

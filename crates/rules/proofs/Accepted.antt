@@ -18,14 +18,21 @@ use Rattle.rules.specs.declared.Vertex.{Vertex}
 use Rattle.rules.specs.Refusals.{passed as passes, eachTo}
 use Rattle.rules.specs.Authors.{isCount, faults, quorum}
 use Rattle.rules.specs.Record.{Edition, recordAt, records, vertices, at, entry, refers, entryName, nameOf, find, vertexOf}
-use Rattle.rules.specs.Check.{fieldsWrong, notAbove, entriesWrong, notEarlier, checkRecord, checkTable, check}
+use Rattle.rules.specs.Check.{paddingSet, roundZero, markZero, authorPast, notAbove, entriesWrong, notEarlier, checkRecord, checkTable, check}
 use Rattle.rules.proofs.Names.{same-name, name-same, Below, below-is, below-trans, below-irrefl}
 use Rattle.rules.proofs.Records.{vertices-length, vertices-at, decode-entries, find-first, find-name}
 use Rattle.rules.proofs.Refusals.{when-passed, then-both, each-passed}
 
--- The record at p passes 5 to 8, and has 31 entries. What check 4 says is of its bytes.
+-- The fields of a vertex pass 5, 18, 19 and 20.
+pub record Fields (n : ℕ) (v : Vertex) : Type 0 where
+  pub padding : paddingSet v ≡ false
+  pub round : roundZero v ≡ false
+  pub mark : markZero v ≡ false
+  pub author : authorPast n v ≡ false
+
+-- The record at p passes what follows 4, and has 31 entries. What check 4 says is of its bytes.
 pub record Fine (n : ℕ) (vs : List Vertex) (p : ℕ) : Type 0 where
-  pub fields : fieldsWrong n (at vs p) ≡ false
+  pub fields : Fields n (at vs p)
   pub above : notAbove vs p ≡ false
   pub entries : entriesWrong n (at vs p) ≡ false
   pub found : notEarlier vs p ≡ false
@@ -41,10 +48,13 @@ unfolding checkRecord
 record-passed E n t p l e =
     let e4 = then-both _ _ e in
     let e5 = then-both _ _ (e4 .1) in
-    let e6 = then-both _ _ (e5 .1) in
+    let e18 = then-both _ _ (e5 .1) in
+    let e19 = then-both _ _ (e18 .1) in
+    let e20 = then-both _ _ (e19 .1) in
+    let e6 = then-both _ _ (e20 .1) in
     let e7 = then-both _ _ (e6 .1) in
     record {
-      fields = when-passed _ _ _ (e5 .0);
+      fields = record { padding = when-passed _ _ _ (e5 .0); round = when-passed _ _ _ (e18 .0); mark = when-passed _ _ _ (e19 .0); author = when-passed _ _ _ (e20 .0) };
       above = when-passed _ _ _ (e6 .0);
       entries = when-passed _ _ _ (e7 .0);
       found = when-passed _ _ _ (e7 .1);
@@ -105,16 +115,16 @@ rising-to vs k h p (suc q) l lq =
 
 module _ {n : ℕ} {vs : List Vertex} (A : Accepted n vs) where
   pub round-pos : (p : ℕ) → p < length vs → at vs p .round ≢ 0
-  unfolding fieldsWrong
-  round-pos p l = eqb-false _ _ (or-neither _ _ (or-neither _ _ (A .each p l .fields) .1) .0)
+  unfolding roundZero
+  round-pos p l = eqb-false _ _ (A .each p l .fields .round)
 
   pub mark-pos : (p : ℕ) → p < length vs → at vs p .mark ≢ 0
-  unfolding fieldsWrong
-  mark-pos p l = eqb-false _ _ (or-neither _ _ (or-neither _ _ (or-neither _ _ (A .each p l .fields) .1) .1) .0)
+  unfolding markZero
+  mark-pos p l = eqb-false _ _ (A .each p l .fields .mark)
 
   pub author-low : (p : ℕ) → p < length vs → at vs p .author < n
-  unfolding fieldsWrong
-  author-low p l = leb-false _ _ (or-neither _ _ (or-neither _ _ (or-neither _ _ (A .each p l .fields) .1) .1) .1)
+  unfolding authorPast
+  author-low p l = leb-false _ _ (A .each p l .fields .author)
 
   -- a non-zero entry is one of the n
   pub entry-low : (p i : ℕ) → p < length vs → entry (at vs p) i ≢ 0 → i < n

@@ -2,6 +2,7 @@ pub mod Names
 pub mod Slots
 pub mod Refusals
 pub mod Records
+pub mod Fields
 pub mod Accepted
 pub mod Front
 pub mod Rounds

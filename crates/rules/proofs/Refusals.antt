@@ -10,7 +10,7 @@ use native.Mathlib.Omega.{arith}
 use native.Mathlib.Numerals.{add-one}
 use lib.ListN.{getD}
 use Rattle.rules.specs.declared.Refusal.{Refusal}
-use Rattle.rules.specs.declared.Refusal.the-variants.{Authors, Length, Records, Sum, Fields, Rising, Entries, Earlier, Lent, Unnamed, Input}
+use Rattle.rules.specs.declared.Refusal.the-variants.{Authors, Length, Records, Sum, Padding, Rising, Entries, Earlier, Lent, Unnamed, Input, RoundZero, MarkZero, AuthorPast}
 use Rattle.rules.specs.declared.Checked.{Checked}
 use Rattle.rules.specs.declared.Checked.the-variants as checked
 use Rattle.rules.specs.declared.LookupAnswer.{LookupAnswer}
@@ -139,23 +139,41 @@ each-without c d (suc k) h =
     rw (each-without c d k (λ i l. h i (le-step l)))
     (sym (then-assoc (eachTo c k) (c k) (d k)) ∙ then-idle (eachTo c k then c k) (d k) (h k (le-refl (suc k))))
 
+-- ---- what is so of whatever is refused
+
+module _ (P : ℕ → List ℕ → Type 0) where
+  -- P is so of the number and the values, where there is a refusal
+  abbrev pub Tells : Told (Unit {0}) → Type 0
+  Tells (gives a) = Unit {0}
+  Tells (refused k vs) = P k vs
+
+  pub when-tells : (k : ℕ) (vs : List ℕ) (b : Bool) → (b ≡ true → P k vs) → Tells (refused k vs when b)
+  unfolding _when_
+  when-tells k vs true h = h refl
+  when-tells k vs false h = tt
+
+  pub then-tells : (c d : Told (Unit {0})) → Tells c → (c ≡ passed → Tells d) → Tells (c then d)
+  unfolding _then_
+  then-tells (gives tt) d h g = g refl
+  then-tells (refused k vs) d h g = h
+
+  pub each-tells : (c : ℕ → Told (Unit {0})) (k : ℕ) → ((i : ℕ) → i < k → Tells (c i)) → Tells (eachTo c k)
+  unfolding eachTo
+  each-tells c zero h = tt
+  each-tells c (suc k) h = then-tells _ _ (each-tells c k (λ i l. h i (le-step l))) (λ _. h k (le-refl (suc k)))
+
 -- ---- what an answer tells fixes the answer
+
+-- the refusals by their numbers, from 0 on; Input stands where no refusal has the number
+numbered : ℕ → List Refusal
+numbered p =
+    Input ∷ Authors ∷ Length ∷ Records ∷ Sum p ∷ Padding p ∷ Rising p ∷ Entries p ∷ Earlier p ∷ Input ∷ Lent ∷ Unnamed ∷ Input
+    ∷ Input ∷ Input ∷ Input ∷ Input ∷ Input ∷ RoundZero p ∷ MarkZero p ∷ AuthorPast p ∷ []
 
 -- the refusal with a number and a position
 unnumber : ℕ → ℕ → Refusal
-unnumber zero p = Input
-unnumber (suc zero) p = Authors
-unnumber (suc (suc zero)) p = Length
-unnumber (suc (suc (suc zero))) p = Records
-unnumber (suc (suc (suc (suc zero)))) p = Sum p
-unnumber (suc (suc (suc (suc (suc zero))))) p = Fields p
-unnumber (suc (suc (suc (suc (suc (suc zero)))))) p = Rising p
-unnumber (suc (suc (suc (suc (suc (suc (suc zero))))))) p = Entries p
-unnumber (suc (suc (suc (suc (suc (suc (suc (suc zero)))))))) p = Earlier p
-unnumber (suc (suc (suc (suc (suc (suc (suc (suc (suc zero))))))))) p = Input
-unnumber (suc (suc (suc (suc (suc (suc (suc (suc (suc (suc zero)))))))))) p = Lent
-unnumber (suc (suc (suc (suc (suc (suc (suc (suc (suc (suc (suc zero))))))))))) p = Unnamed
-unnumber (suc (suc (suc (suc (suc (suc (suc (suc (suc (suc (suc (suc k)))))))))))) p = Input
+unfolding numbered
+unnumber k p = getD (numbered p) k Input
 
 -- What each row is: it has its own number, above 0, and one value, the position.
 record Rowed (r : Refusal) : Type 0 where
@@ -169,13 +187,16 @@ rowed Authors = record { fixed = refl; one = refl; above = omega arith }
 rowed Length = record { fixed = refl; one = refl; above = omega arith }
 rowed Records = record { fixed = refl; one = refl; above = omega arith }
 rowed (Sum p) = record { fixed = refl; one = refl; above = omega arith }
-rowed (Fields p) = record { fixed = refl; one = refl; above = omega arith }
+rowed (Padding p) = record { fixed = refl; one = refl; above = omega arith }
 rowed (Rising p) = record { fixed = refl; one = refl; above = omega arith }
 rowed (Entries p) = record { fixed = refl; one = refl; above = omega arith }
 rowed (Earlier p) = record { fixed = refl; one = refl; above = omega arith }
 rowed Lent = record { fixed = refl; one = refl; above = omega arith }
 rowed Unnamed = record { fixed = refl; one = refl; above = omega arith }
 rowed Input = record { fixed = refl; one = refl; above = omega arith }
+rowed (RoundZero p) = record { fixed = refl; one = refl; above = omega arith }
+rowed (MarkZero p) = record { fixed = refl; one = refl; above = omega arith }
+rowed (AuthorPast p) = record { fixed = refl; one = refl; above = omega arith }
 
 pub one-value : (r : Refusal) → rowOf r .values ≡ getD (rowOf r .values) 0 0 ∷ []
 one-value r = rowed r .one

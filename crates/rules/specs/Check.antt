@@ -1,4 +1,4 @@
--- Document 01, "Refusal numbers and their order": the rows 1 to 8, each with a test of its own, and their order.
+-- Document 01, "Refusal numbers and their order": the rows 1 to 8, with 18 to 20 of document 02, f), each with a test of its own, and their order.
 -- Assumes nothing.
 use Prim.Native.Nat.{ℕ, pred, _%_}
 use mathlib.Core.Bool.{Bool, not}
@@ -15,9 +15,21 @@ use Rattle.rules.specs.Refusals.{Told, refusal, _when_, _then_, eachTo}
 unfoldable pub sumDiffers : Edition → List ℕ → List Vertex → ℕ → Bool
 sumDiffers E t vs p = not (eqb (sumOf E (recordAt E t p)) (at vs p .sum))
 
--- 5: padding not zero, or round 0, or mark 0, or author n or more
-unfoldable pub fieldsWrong : ℕ → Vertex → Bool
-fieldsWrong n v = not (eqb (v .padding) 0) or eqb (v .round) 0 or eqb (v .mark) 0 or leb n (v .author)
+-- 5: padding not zero
+unfoldable pub paddingSet : Vertex → Bool
+paddingSet v = not (eqb (v .padding) 0)
+
+-- 18: round 0
+unfoldable pub roundZero : Vertex → Bool
+roundZero v = eqb (v .round) 0
+
+-- 19: mark 0
+unfoldable pub markZero : Vertex → Bool
+markZero v = eqb (v .mark) 0
+
+-- 20: author n or more
+unfoldable pub authorPast : ℕ → Vertex → Bool
+authorPast n v = leb n (v .author)
 
 -- 6: position above 0 and the name is not above the one before it
 unfoldable pub notAbove : List Vertex → ℕ → Bool
@@ -34,11 +46,14 @@ entriesWrong n v =
 unfoldable pub notEarlier : List Vertex → ℕ → Bool
 notEarlier vs p = anyTo (λ i. refers (at vs p) i and leb p (find vs (entryName (at vs p) i))) 31
 
--- Each record is put through 4 to 8 in order. Document 02, h): row 9 is gone.
+-- Each record is put through these in order. Document 02, h): row 9 is gone; f): 18, 19 and 20 stand after 5 and before 6.
 unfoldable pub checkRecord : Edition → ℕ → List ℕ → List Vertex → ℕ → Told (Unit {0})
 checkRecord E n t vs p =
     refusal 4 p when sumDiffers E t vs p
-    then refusal 5 p when fieldsWrong n (at vs p)
+    then refusal 5 p when paddingSet (at vs p)
+    then refusal 18 p when roundZero (at vs p)
+    then refusal 19 p when markZero (at vs p)
+    then refusal 20 p when authorPast n (at vs p)
     then refusal 6 p when notAbove vs p
     then refusal 7 p when entriesWrong n (at vs p)
     then refusal 8 p when notEarlier vs p

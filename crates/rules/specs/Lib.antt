@@ -2,6 +2,7 @@ pub mod Authors
 pub mod Record
 pub mod Refusals
 pub mod Check
+pub mod Fields
 pub mod Nine
 pub mod Lookup
 pub mod Decision

@@ -5,7 +5,7 @@ use mathlib.Core.Bool.{Bool, true, false}
 use mathlib.Core.List.{List, [], _∷_}
 use lib.ListN.{getD}
 use Rattle.rules.specs.declared.Refusal.{Refusal}
-use Rattle.rules.specs.declared.Refusal.the-variants.{Authors, Length, Records, Sum, Fields, Rising, Entries, Earlier, Lent, Unnamed, Input}
+use Rattle.rules.specs.declared.Refusal.the-variants.{Authors, Length, Records, Sum, Padding, Rising, Entries, Earlier, Lent, Unnamed, Input, RoundZero, MarkZero, AuthorPast}
 use Rattle.rules.specs.declared.Checked.{Checked}
 use Rattle.rules.specs.declared.Checked.the-variants as checked
 use Rattle.rules.specs.declared.LookupAnswer.{LookupAnswer}
@@ -53,13 +53,16 @@ rowOf Authors = row 1 0
 rowOf Length = row 2 0
 rowOf Records = row 3 0
 rowOf (Sum p) = row 4 p
-rowOf (Fields p) = row 5 p
+rowOf (Padding p) = row 5 p
 rowOf (Rising p) = row 6 p
 rowOf (Entries p) = row 7 p
 rowOf (Earlier p) = row 8 p
 rowOf Lent = row 10 0
 rowOf Unnamed = row 11 0
 rowOf Input = row 12 0
+rowOf (RoundZero p) = row 18 p
+rowOf (MarkZero p) = row 19 p
+rowOf (AuthorPast p) = row 20 p
 
 abbrev pub refusalTells : {A : Type 0} → Refusal → Told A
 refusalTells r = refused (rowOf r .number) (rowOf r .values)

@@ -24,13 +24,16 @@ pub enum Refusal {
     Length,
     Records,
     Sum { position: usize },
-    Fields { position: usize },
+    Padding { position: usize },
     Rising { position: usize },
     Entries { position: usize },
     Earlier { position: usize },
     Lent,
     Unnamed,
     Input,
+    RoundZero { position: usize },
+    MarkZero { position: usize },
+    AuthorPast { position: usize },
 }
 
 // What the check tells.

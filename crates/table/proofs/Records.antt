@@ -7,12 +7,11 @@ use mathlib.Core.List.{List}
 use native.Mathlib.Omega.{arith}
 use lib.Dec.{eqb}
 use borrow.Author.Tests.{eqb-false}
-use Rattle.folds.proofs.Tests.{or-neither}
 use Rattle.rules.specs.declared.Vertex.{Vertex}
 use Rattle.rules.specs.Authors.{isCount}
 use Rattle.rules.specs.Record.{first, recordAt, decode, sumOf, records, vertices, at}
 use Rattle.rules.specs.Refusals.{Told, refusal, passed, _when_, _then_, eachTo}
-use Rattle.rules.specs.Check.{sumDiffers, fieldsWrong, notEarlier, checkRecord}
+use Rattle.rules.specs.Check.{sumDiffers, roundZero, notEarlier, checkRecord}
 use Rattle.rules.proofs.Records.{vertices-at}
 use Rattle.rules.proofs.Refusals.{when-passed, then-both, then-assoc, each-passed}
 use Rattle.rules.proofs.Accepted.{count-is, record-passed}
@@ -41,17 +40,18 @@ reached n t p v count w e before = record { count = count; within = w; is = e �
 
 -- and has reached check 8 once it has passed the rows that need no search
 pub ready : (n : ℕ) (t : List ℕ) (p : ℕ) (v : Vertex) → Reached n t p v → fourToSeven n t p ≡ passed → Ready n t p v
-unfolding fieldsWrong
+unfolding roundZero
 ready n t p v R e =
     let e4 = then-both _ _ e in
     let e5 = then-both _ _ (e4 .1) in
     let e6 = then-both _ _ (e5 .1) in
-    let fields : fieldsWrong n v ≡ false = rw (R .is) (when-passed _ _ _ (e5 .0)) in
+    let e18 = then-both _ _ (then-both _ _ (e5 .0) .1) in
+    let round : roundZero v ≡ false = rw (R .is) (when-passed _ _ _ (e18 .0)) in
     record {
       few = count-is n (R .count) .most;
       within = R .within;
       is = R .is;
-      round-pos = eqb-false _ _ (or-neither _ _ (or-neither _ _ fields .1) .0);
+      round-pos = eqb-false _ _ round;
       entries = rw (R .is) (when-passed _ _ _ (e6 .1));
       rises = λ i l. let w : p < records first t = R .within in record-passed first n t i (omega arith) (each-passed _ p (R .before) i l) .above;
     }

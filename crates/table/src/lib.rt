@@ -19,8 +19,8 @@ use record::RECORD;
 use record::name_at;
 use record::part;
 use record::records_of;
+use rows::check_fields;
 use rows::entries_wrong;
-use rows::fields_wrong;
 use rules::Checked;
 use rules::Name;
 use rules::Refusal;
@@ -71,7 +71,7 @@ fn check_count(n: u8) -> Checked
     Checked::Refused(Refusal::Authors)
 }
 
-// ---- 4 to 8: the test of each row
+// ---- 4, 6 and 8: the test of each row
 
 fn sum_differs(b: &[u8], sum: u16) -> bool
     ensures { λ r. ⌜ r ≡ not (eqb (sumOf first (now (b .entry))) sum) ⌝ }
@@ -140,7 +140,7 @@ fn not_earlier(n: u8, table: &[u8], p: usize, v: Vertex) -> bool
 
 // ---- the rows in order
 
-// What needs no search. All records before p have passed.
+// What needs no search: 4, the rows of the fields, 6 and 7. All records before p have passed.
 fn four_to_seven(n: u8, table: &[u8], p: usize, v: Vertex) -> Checked
     requires { ⌜ Reached n (now table) p v ⌝ }
     ensures { λ r. ⌜ checkTells r ≡ fourToSeven n (now (table .entry)) p ⌝ }
@@ -149,10 +149,10 @@ fn four_to_seven(n: u8, table: &[u8], p: usize, v: Vertex) -> Checked
         Refusal::Sum { position: p },
         sum_differs(part(table, p), v.sum),
     );
-    let five = row(Refusal::Fields { position: p }, fields_wrong(n, v));
+    let fields = check_fields(n, p, v);
     let six = row(Refusal::Rising { position: p }, not_above(table, p));
     let seven = row(Refusal::Entries { position: p }, entries_wrong(n, v));
-    first_of(four, first_of(five, first_of(six, seven)))
+    first_of(four, first_of(fields, first_of(six, seven)))
 }
 
 // 4 to 8. The search of row 8 relies on what the rows before it say.

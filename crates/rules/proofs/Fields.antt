@@ -1,0 +1,56 @@
+-- Each of 5, 18, 19 and 20 is given for its own field, and for nothing else.
+-- Assumes nothing.
+use Prim.Native.Nat.{ℕ}
+use mathlib.Core.Path.{_≡_, refl, subst}
+use mathlib.Core.Bool.{Bool, false}
+use mathlib.Core.List.{List, [], _∷_}
+use lib.Dec.{eqb}
+use lib.ListN.{getD}
+use borrow.Author.Tests.{eqb-true, eqb-false, leb-true}
+use Rattle.folds.specs.Folds.{_or_}
+use Rattle.folds.proofs.Tests.{or-neither, not-true, not-false}
+use Rattle.rules.specs.Record.{Edition, records, vertices, at}
+use Rattle.rules.specs.Refusals.{refusal, _when_}
+use Rattle.rules.specs.Check.{paddingSet, roundZero, markZero, authorPast, checkRecord, checkTable, check}
+use Rattle.rules.specs.Fields.{Says, padding, round, mark, author, other}
+use Rattle.rules.proofs.Refusals.{Tells, when-tells, then-tells, each-tells, when-passed}
+
+module _ (E : Edition) (n : ℕ) (t : List ℕ) where
+  abbrev Said : ℕ → List ℕ → Type 0
+  Said k ps = Says n (at (vertices E t) (getD ps 0 0)) k
+
+  -- a row that has none of the four numbers
+  abbrev oneOf : ℕ → Bool
+  oneOf k = eqb k 5 or eqb k 18 or eqb k 19 or eqb k 20
+
+  silent : (k p : ℕ) (b : Bool) → oneOf k ≡ false → Tells Said (refusal k p when b)
+  silent k p b e =
+      let e5 = or-neither _ _ e in
+      let e18 = or-neither _ _ (e5 .1) in
+      let e19 = or-neither _ _ (e18 .1) in
+      when-tells Said k _ b (λ _. other (eqb-false k 5 (e5 .0)) (eqb-false k 18 (e18 .0)) (eqb-false k 19 (e19 .0)) (eqb-false k 20 (e19 .1)))
+
+  record-says : (p : ℕ) → Tells Said (checkRecord E n t (vertices E t) p)
+  unfolding checkRecord paddingSet roundZero markZero authorPast _or_
+  record-says p =
+      then-tells Said _ _ (silent 4 p _ refl) (λ _.
+      then-tells Said _ _ (when-tells Said 5 _ _ (λ e. padding refl (eqb-false _ _ (not-true _ e)))) (λ e5.
+      let padded = eqb-true _ _ (not-false _ (when-passed _ _ _ e5)) in
+      then-tells Said _ _ (when-tells Said 18 _ _ (λ e. round refl padded (eqb-true _ _ e))) (λ e18.
+      let rounded = eqb-false _ _ (when-passed _ _ _ e18) in
+      then-tells Said _ _ (when-tells Said 19 _ _ (λ e. mark refl padded rounded (eqb-true _ _ e))) (λ e19.
+      let marked = eqb-false _ _ (when-passed _ _ _ e19) in
+      then-tells Said _ _ (when-tells Said 20 _ _ (λ e. author refl padded rounded marked (leb-true _ _ e))) (λ _.
+      then-tells Said _ _ (silent 6 p _ refl) (λ _.
+      then-tells Said _ _ (silent 7 p _ refl) (λ _.
+      silent 8 p _ refl)))))))
+
+  -- what the check's number says
+  pub fields : (k p : ℕ) → check E n t ≡ refusal k p → Says n (at (vertices E t) p) k
+  unfolding check checkTable _or_
+  fields k p e =
+      subst (Tells Said) e
+      (then-tells Said _ _ (silent 1 0 _ refl) (λ _.
+      then-tells Said _ _ (silent 2 0 _ refl) (λ _.
+      then-tells Said _ _ (silent 3 0 _ refl) (λ _.
+      each-tells Said _ (records E t) (λ p _. record-says p)))))

@@ -1,0 +1,14 @@
+-- Document 02, f): what a refused table's number says of the fields of the record at its position. Field staff replace the card for bad padding
+-- and call the author's owner otherwise.
+-- Assumes nothing.
+use Prim.Native.Nat.{ℕ, _≤_}
+use mathlib.Core.Path.{_≡_}
+use mathlib.Core.Logic.{_≢_}
+use Rattle.rules.specs.declared.Vertex.{Vertex}
+
+pub data Says (n : ℕ) (v : Vertex) (k : ℕ) : Type 0 where
+  padding : k ≡ 5 → v .padding ≢ 0 → Says n v k
+  round : k ≡ 18 → v .padding ≡ 0 → v .round ≡ 0 → Says n v k
+  mark : k ≡ 19 → v .padding ≡ 0 → v .round ≢ 0 → v .mark ≡ 0 → Says n v k
+  author : k ≡ 20 → v .padding ≡ 0 → v .round ≢ 0 → v .mark ≢ 0 → n ≤ v .author → Says n v k
+  other : k ≢ 5 → k ≢ 18 → k ≢ 19 → k ≢ 20 → Says n v k

@@ -1,6 +1,6 @@
 -- `rows::check_fields` meets its contract, row by row.
 -- Assumes nothing.
-use Prim.Native.Nat.{_<_, _≤_}
+use Prim.Native.Nat.{_<_}
 use mathlib.Core.Path.{_≡_, refl}
 use mathlib.Core.Logic.{_≢_}
 use borrow.Author.Tests.{eq-eqb, ne-eqb, le-leb, lt-leb}
@@ -11,18 +11,22 @@ use Rattle.rows.proofs.check_fields.Tie as tie
 
 returns : tie.Need-returns
 unfolding paddingSet _when_ _then_
-returns c = rw (ne-eqb _ _ (c .if1 .taken)) refl
+returns c = let padding : c .before .before .args .v .padding ≢ 0 = c .if1 .taken in rw (ne-eqb _ _ padding) refl
 
 returns-2 : tie.Need-returns-2
 unfolding paddingSet roundZero _when_ _then_
-returns-2 c = rw (eq-eqb _ _ (c .before .before .if1 .left), eq-eqb _ _ (c .if2 .taken)) refl
+returns-2 c =
+    let one = c .before .before in
+    let round : one .before .before .args .v .round ≡ 0 = c .if2 .taken in
+    rw (eq-eqb _ _ (one .if1 .left), eq-eqb _ _ round) refl
 
 returns-3 : tie.Need-returns-3
 unfolding paddingSet roundZero markZero _when_ _then_
 returns-3 c =
     let two = c .before .before in
     let one = two .before .before in
-    rw (eq-eqb _ _ (one .if1 .left), ne-eqb _ _ (two .if2 .left), eq-eqb _ _ (c .if3 .taken)) refl
+    let mark : one .before .before .args .v .mark ≡ 0 = c .if3 .taken in
+    rw (eq-eqb _ _ (one .if1 .left), ne-eqb _ _ (two .if2 .left), eq-eqb _ _ mark) refl
 
 returns-4 : tie.Need-returns-4
 unfolding paddingSet roundZero markZero authorPast _when_ _then_
@@ -30,8 +34,7 @@ returns-4 c =
     let three = c .before .before in
     let two = three .before .before in
     let one = two .before .before in
-    let s = one .before .before in
-    let low : s .args .v .author < s .args .n = c .if4 .taken in
+    let low : one .before .before .args .v .author < one .before .before .args .n = c .if4 .taken in
     rw (eq-eqb _ _ (one .if1 .left), ne-eqb _ _ (two .if2 .left), ne-eqb _ _ (three .if3 .left), lt-leb _ _ low) refl
 
 returns-5 : tie.Need-returns-5

@@ -1,5 +1,6 @@
-//! Document 01, "Refusal numbers and their order": checks 1 to 8. Number 9 is retired: request
-//! h of document 02 took its row out, and no other check gets the number.
+//! Document 01, "Refusal numbers and their order": checks 1 to 8, with 18, 19 and 20 of request
+//! f of document 02 between 5 and 6. Number 9 is retired: request h took its row out, and no
+//! other check gets the number.
 
 use crate::authors::{is_author_count, quorum};
 use crate::record::{decode, sum_of, Name, Vertex, MOST_RECORDS, RECORD_BYTES};
@@ -51,8 +52,8 @@ pub fn check(n: u8, table: &[u8]) -> Result<(), Refusal> {
     Ok(())
 }
 
-/// The first of checks 4 to 8 that one record fails. `before` is the name of the
-/// record before it, `earlier` has the names of all records before it.
+/// The first check that one record fails, of 4, 5, 18, 19, 20, 6, 7, 8 in this order. `before`
+/// is the name of the record before it, `earlier` has the names of all records before it.
 fn failing(
     n: u8,
     record: &[u8],
@@ -63,8 +64,17 @@ fn failing(
     if vertex.sum != sum_of(record) {
         return Some(4);
     }
-    if vertex.padding != 0 || vertex.round == 0 || vertex.mark == 0 || vertex.author >= n {
+    if vertex.padding != 0 {
         return Some(5);
+    }
+    if vertex.round == 0 {
+        return Some(18);
+    }
+    if vertex.mark == 0 {
+        return Some(19);
+    }
+    if vertex.author >= n {
+        return Some(20);
     }
     if before.is_some_and(|before| vertex.name() <= before) {
         return Some(6);

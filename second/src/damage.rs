@@ -23,12 +23,14 @@ pub enum Fault {
     PaddingUnmended,
     /// 5.
     Padding,
-    /// 5.
+    /// 18.
     RoundZero,
-    /// 5.
+    /// 19.
     MarkZero,
-    /// 5.
+    /// 20.
     AuthorPast,
+    /// 5, 18 or 19: two or more of the four above in one record.
+    SeveralFields,
     /// 6 or 8: two records change places.
     Swap,
     /// 6: a record is there twice.
@@ -52,7 +54,7 @@ pub enum Fault {
 }
 
 impl Fault {
-    pub const ALL: [Fault; 18] = [
+    pub const ALL: [Fault; 19] = [
         Fault::Sum,
         Fault::Byte,
         Fault::ByteMended,
@@ -61,6 +63,7 @@ impl Fault {
         Fault::RoundZero,
         Fault::MarkZero,
         Fault::AuthorPast,
+        Fault::SeveralFields,
         Fault::Swap,
         Fault::Double,
         Fault::NameBefore,
@@ -71,6 +74,14 @@ impl Fault {
         Fault::Drop,
         Fault::Later,
         Fault::FarRound,
+    ];
+
+    /// Each for a row of its own: 5, 18, 19 and 20, in the order of the rows.
+    const OF_FIELDS: [Fault; 4] = [
+        Fault::Padding,
+        Fault::RoundZero,
+        Fault::MarkZero,
+        Fault::AuthorPast,
     ];
 }
 
@@ -187,8 +198,15 @@ fn put_in_fields(fault: Fault, n: u8, records: &mut [Record], rng: &mut Rng) {
         }
         _ => Some(rng.below(records.len())),
     };
+    let before_6 = fault == Fault::SeveralFields || Fault::OF_FIELDS.contains(&fault);
     if let Some(p) = position {
-        change(&mut records[p], |vertex| field(fault, n, vertex, rng));
+        change(&mut records[p], |vertex| {
+            // Now and then 6 fails as well, and mostly 7, which come later.
+            if before_6 && rng.chance(30) {
+                vertex.round = 1;
+            }
+            field(fault, n, vertex, rng);
+        });
     }
 }
 
@@ -199,6 +217,7 @@ fn field(fault: Fault, n: u8, vertex: &mut Vertex, rng: &mut Rng) {
         Fault::RoundZero => vertex.round = 0,
         Fault::MarkZero => vertex.mark = 0,
         Fault::AuthorPast => vertex.author = rng.pick(&[n, n + 1, 31, 255]) as u8,
+        Fault::SeveralFields => several_fields(n as u8, vertex, rng),
         Fault::FirstRoundEntry => vertex.refs[rng.below(n)] = rng.pick(&[1, 0x1_0000, u32::MAX]),
         Fault::EntryPast if n < 31 => vertex.refs[rng.between(n, 30)] = 1,
         Fault::TooFewEntries => {
@@ -214,5 +233,17 @@ fn field(fault: Fault, n: u8, vertex: &mut Vertex, rng: &mut Rng) {
             vertex.refs[author] = vertex.refs[author].wrapping_add(rng.pick(&[1, 0x1_0000]));
         }
         _ => {}
+    }
+}
+
+/// Each of the three that can be the first of several is that equally often.
+fn several_fields(n: u8, vertex: &mut Vertex, rng: &mut Rng) {
+    let last = Fault::OF_FIELDS.len() - 1;
+    let first = rng.below(last);
+    let another = rng.between(first + 1, last);
+    for i in first..=last {
+        if i == first || i == another || rng.chance(50) {
+            field(Fault::OF_FIELDS[i], n, vertex, rng);
+        }
     }
 }

@@ -3,7 +3,7 @@
 use crate::authors::quorum;
 use crate::check::Refusal;
 use crate::program::run;
-use crate::record::{encode_mended, Vertex, ENTRIES, RECORD_BYTES};
+use crate::record::{encode_mended, sum_of, Vertex, ENTRIES, RECORD_BYTES};
 use crate::settle::{settle, Counts, Lent, Outcome};
 
 /// Vertices in the order they were put; nothing sorts them.
@@ -125,6 +125,14 @@ impl Made {
     pub fn settled(&self) -> Settled {
         settled(self.n, &self.table())
     }
+}
+
+/// A table in which the sum of one record is off.
+pub fn sum_off(mut table: Vec<u8>, position: usize, by: u16) -> Vec<u8> {
+    let record = &mut table[position * RECORD_BYTES..][..RECORD_BYTES];
+    let sum = sum_of(record).wrapping_add(by);
+    record[RECORD_BYTES - 2..].copy_from_slice(&sum.to_le_bytes());
+    table
 }
 
 pub fn prints(n: u8, table: &[u8]) -> String {

@@ -28,15 +28,24 @@ pub fn check(n: u8, table: &[u8]) -> Result<(), Refusal> {
     Ok(())
 }
 
-/// The first of checks 4 to 8 that one record fails.
+/// The first check that one record fails, of 4, 5, 18, 19, 20, 6, 7, 8 in this order.
 #[inline]
 fn failing(n: u8, earlier: &[Record], record: &Record) -> Option<u8> {
     if sum_of(record) != u16_at(record, 136) {
         return Some(4);
     }
-    let name = name_of(record);
-    if record[135] != 0 || name.round == 0 || name.mark == 0 || name.author >= n {
+    if record[135] != 0 {
         return Some(5);
+    }
+    let name = name_of(record);
+    if name.round == 0 {
+        return Some(18);
+    }
+    if name.mark == 0 {
+        return Some(19);
+    }
+    if name.author >= n {
+        return Some(20);
     }
     if earlier
         .last()

@@ -2,12 +2,13 @@
 //! way of deciding a round goes without cases.
 
 use crate::authors::f_of;
-use crate::check::check;
+use crate::check::{check, Refusal};
 use crate::decide::{
     certified_in_history, certifies, commit_qualifies, decide_all, skip_qualifies, Way,
 };
 use crate::generate::{input, lent, question, table, Kind};
 use crate::program::run;
+use crate::record::{decode, RECORD_BYTES};
 use crate::rng::Rng;
 use crate::settle::{equivocators, lookup, settle, Outcome};
 use crate::table::Table;
@@ -45,7 +46,11 @@ fn shown_by(kind: Kind, seed: u64) -> BTreeSet<String> {
     let refusal = |number: u8| format!("refusal {number:2}");
     match check(n, &bytes) {
         Err(refused) => {
-            shown.insert(refusal(refused.number));
+            let number = refusal(refused.number);
+            if is_of_fields(refused) && several_fields(n, &bytes, refused.position) {
+                shown.insert(format!("{number}, another of the four fields wrong too"));
+            }
+            shown.insert(number);
         }
         Ok(()) => {
             shown.insert("passed".to_string());
@@ -65,6 +70,22 @@ fn shown_by(kind: Kind, seed: u64) -> BTreeSet<String> {
         shown.insert(refusal(12));
     }
     shown
+}
+
+fn is_of_fields(refusal: Refusal) -> bool {
+    [5, 18, 19, 20].contains(&refusal.number)
+}
+
+/// Whether the record fails several of these four, of which the first was told.
+fn several_fields(n: u8, table: &[u8], position: usize) -> bool {
+    let vertex = decode(&table[position * RECORD_BYTES..][..RECORD_BYTES]);
+    let wrong = [
+        vertex.padding != 0,
+        vertex.round == 0,
+        vertex.mark == 0,
+        vertex.author >= n,
+    ];
+    wrong.into_iter().filter(|&wrong| wrong).count() > 1
 }
 
 fn shown_by_rounds(table: &Table, shown: &mut BTreeSet<String>) {

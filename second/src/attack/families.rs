@@ -2,12 +2,12 @@
 
 use super::Attack;
 use crate::ask::Case;
-use crate::authors::AUTHOR_COUNTS;
+use crate::authors::{quorum, AUTHOR_COUNTS};
 use crate::check::MOST_ROUNDS;
 use crate::damage::Record;
 use crate::examples::{all, p13_or_p14, p2, p7, p9, padded, supporting, tallest};
 use crate::generate::needed;
-use crate::made::{vertex, Made};
+use crate::made::{sum_off, vertex, Made};
 use crate::record::{encode_mended, mend, name, Vertex, RECORD_BYTES};
 use crate::rng::Rng;
 use crate::settle::Lent;
@@ -438,4 +438,88 @@ fn in_so_many_cells(attack: &mut Attack, made: &Made) {
             name: last(made).name(),
         });
     }
+}
+
+// ---- the four field faults
+
+/// Rows 5, 18, 19 and 20 in all combinations, at the first record, one amid and the last: which
+/// of them answers must depend on nothing that stands behind them, in the record or in the
+/// table. There are two rounds, and three records in the second.
+pub fn field_faults(attack: &mut Attack) {
+    for n in AUTHOR_COUNTS {
+        let right = Made::thin_rounds(n, quorum(n) + 3);
+        let last = right.vertices.len() - 1;
+        for position in [0, last - 1, last] {
+            for also in ALSO {
+                let mut made = right.clone();
+                also(n, &mut made.vertices[position]);
+                in_all_combinations(attack, &made, position);
+            }
+        }
+    }
+}
+
+/// What else is wrong with the record.
+const ALSO: [fn(u8, &mut Vertex); 4] = [
+    |_, _| {},
+    below_the_one_before,
+    with_wrong_entries,
+    naming_nothing,
+];
+
+/// 6 and no other, whatever the author and the mark become; the first record is as it was.
+fn below_the_one_before(_: u8, vertex: &mut Vertex) {
+    vertex.round = 1;
+    vertex.refs.fill(0);
+}
+
+/// 7: a reference in round 1, and none above it.
+fn with_wrong_entries(_: u8, vertex: &mut Vertex) {
+    let entry = u32::from(vertex.round == 1);
+    vertex.refs.fill(0);
+    vertex.refs[0] = entry;
+}
+
+/// 8: enough references, to a round that isn't there.
+fn naming_nothing(n: u8, vertex: &mut Vertex) {
+    vertex.round = 9;
+    vertex.refs[..quorum(n)].fill(1);
+}
+
+/// With the right sum, with another (4), and with another sum of the last record, where that
+/// is a later one.
+fn in_all_combinations(attack: &mut Attack, made: &Made, position: usize) {
+    let (n, last) = (made.n, made.vertices.len() - 1);
+    for vertex in with_field_faults(n, &made.vertices[position]) {
+        let mut made = made.clone();
+        made.vertices[position] = vertex;
+        let table = made.table();
+        attack.ask(n, &table);
+        attack.ask(n, &sum_off(table.clone(), position, 1));
+        if position < last {
+            attack.ask(n, &sum_off(table, last, 1));
+        }
+    }
+}
+
+/// Each of the four fields as it is and with wrong values, in all combinations: the lowest and
+/// the highest that is wrong, the highest bit alone for the padding, and n's neighbour.
+fn with_field_faults(n: u8, right: &Vertex) -> Vec<Vertex> {
+    let mut all = Vec::new();
+    for padding in [0, 1, 128, 255] {
+        for round in [right.round, 0] {
+            for mark in [right.mark, 0] {
+                for author in [right.author, n, n + 1, 255] {
+                    all.push(Vertex {
+                        padding,
+                        round,
+                        mark,
+                        author,
+                        ..right.clone()
+                    });
+                }
+            }
+        }
+    }
+    all
 }

@@ -13,7 +13,7 @@ use std::fmt::{Display, Formatter};
 /// Cases of one family, one after another.
 type Family = fn(&mut Attack);
 
-const FAMILIES: [(&str, Family); 12] = [
+const FAMILIES: [(&str, Family); 13] = [
     ("every bit of 13 records with twins", families::bits),
     ("every bit of P7, sums right", families::bits_behind_the_sum),
     ("all small tables", families::small_tables),
@@ -32,6 +32,10 @@ const FAMILIES: [(&str, Family); 12] = [
     ("buffers of every size", families::buffers),
     ("every n, and names", families::counts_and_names),
     ("as tall as can be", families::as_tall_as_can_be),
+    (
+        "the four field faults, all combinations",
+        families::field_faults,
+    ),
 ];
 
 /// The attack on one set of calls, and what came of it.

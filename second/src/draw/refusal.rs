@@ -23,34 +23,24 @@ pub fn in_words(n: u8, vertices: &[Vertex], refusal: Refusal) -> String {
 /// Which record it is and what is wrong with it, by the number of the check; nothing for a
 /// number that is not about a record.
 fn of_record(number: u8, n: u8, vertex: &Vertex) -> Option<String> {
+    let (round, author, mark) = (vertex.round, vertex.author, vertex.mark);
     let what = match number {
         4 => {
             let right = sum_of(&encode(vertex));
             format!("the sum is {} and ought to be {right}", vertex.sum)
         }
-        5 => of_fields(n, vertex),
+        5 => format!("the padding is {} and ought to be 0", vertex.padding),
+        18 => "the round is 0, and rounds start at 1".to_string(),
+        19 => "the mark is 0, and a mark is never 0".to_string(),
+        20 => format!("the author is {author}, and authors are 0 to {}", n - 1),
         6 => "the name is not above the one before it".to_string(),
         7 => of_entries(n, vertex),
         8 => "a reference names no record earlier in the table".to_string(),
         _ => return None,
     };
-    let (round, author, mark) = (vertex.round, vertex.author, vertex.mark);
     Some(format!(
         "round {round}, author {author}, mark {mark}: {what}"
     ))
-}
-
-fn of_fields(n: u8, vertex: &Vertex) -> String {
-    if vertex.padding != 0 {
-        return format!("the padding is {} and ought to be 0", vertex.padding);
-    }
-    if vertex.round == 0 {
-        return "rounds start at 1".to_string();
-    }
-    if vertex.mark == 0 {
-        return "a mark is never 0".to_string();
-    }
-    format!("authors are 0 to {}", n - 1)
 }
 
 fn of_entries(n: u8, vertex: &Vertex) -> String {

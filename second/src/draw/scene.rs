@@ -131,7 +131,8 @@ impl Scene {
         }
     }
 
-    /// The record that the refusal is about, if it is about one.
+    /// The record that the refusal is about, if it is about one: of those that a picture can
+    /// have, all but 1, 2 and 3 are.
     pub fn faulty(&self) -> Option<usize> {
         match self.verdict {
             Verdict::Refused(refusal) if refusal.number >= 4 => Some(refusal.position),

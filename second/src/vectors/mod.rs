@@ -9,9 +9,9 @@ mod settlements;
 use crate::check::{check, Refusal};
 use crate::examples::p2;
 use crate::generate::bytes_of;
-use crate::made::{vertex, Made};
+use crate::made::{sum_off, vertex, Made};
 use crate::program::refusal_line;
-use crate::record::{decode, sum_of, Name, Vertex, RECORD_BYTES};
+use crate::record::{decode, Name, Vertex, RECORD_BYTES};
 use crate::settle::lookup;
 use settlements::{settlement_refusal, settlement_text, settlements};
 use std::path::Path;
@@ -187,12 +187,44 @@ fn changed(position: usize, how: impl FnOnce(&mut Vertex)) -> Vec<u8> {
     made.table()
 }
 
-/// A table in which the sum of one record is off.
-fn sum_off(mut table: Vec<u8>, position: usize, by: u16) -> Vec<u8> {
-    let record = &mut table[position * RECORD_BYTES..][..RECORD_BYTES];
-    let sum = sum_of(record).wrapping_add(by);
-    record[RECORD_BYTES - 2..].copy_from_slice(&sum.to_le_bytes());
-    table
+// ---- what makes a record fail, the sum right
+
+type Cause = fn(&mut Vertex);
+
+/// The rows behind the sum up to 6, in the order in which they are put to a record.
+const UP_TO_6: [(u8, Cause); 5] = [
+    (5, padding_1),
+    (18, round_0),
+    (19, mark_0),
+    (20, author_n),
+    (6, in_round_1),
+];
+
+fn padding_1(vertex: &mut Vertex) {
+    vertex.padding = 1;
+}
+
+fn round_0(vertex: &mut Vertex) {
+    vertex.round = 0;
+}
+
+fn mark_0(vertex: &mut Vertex) {
+    vertex.mark = 0;
+}
+
+fn author_n(vertex: &mut Vertex) {
+    vertex.author = 4;
+}
+
+/// Behind a record of round 2 it fails 6, whatever its author and its mark are, and not 7 or 8.
+fn in_round_1(vertex: &mut Vertex) {
+    vertex.round = 1;
+    vertex.refs.fill(0);
+}
+
+/// Author 2 has no such mark.
+fn names_nothing(vertex: &mut Vertex) {
+    vertex.refs[2] = 9;
 }
 
 // ---- the vectors
@@ -207,6 +239,7 @@ pub fn vectors() -> Vec<Vector> {
     all.extend(entries());
     all.extend(earlier());
     all.extend(first_answers());
+    all.extend(earlier_records_first());
     all.extend(lookups());
     all.extend(lookups_elsewhere());
     all.extend(settlements());
@@ -293,18 +326,17 @@ fn sums() -> Vec<Vector> {
     ]
 }
 
-/// 5.
+/// 5, 18, 19 and 20.
 fn fields() -> Vec<Vector> {
-    type Cause = (&'static str, fn(&mut Vertex));
-    let causes: [Cause; 5] = [
-        ("padding_1_sum_right", |v| v.padding = 1),
-        ("round_0", |v| v.round = 0),
-        ("mark_0", |v| v.mark = 0),
-        ("author_n", |v| v.author = 4),
+    let causes: [(&str, Cause); 5] = [
+        ("padding_1_sum_right", padding_1),
+        ("round_0", round_0),
+        ("mark_0", mark_0),
+        ("author_n", author_n),
         ("author_255", |v| v.author = 255),
     ];
     let places = [("first", 0), ("middle", MIDDLE), ("last", LAST)];
-    let each = |(cause, how): Cause| {
+    let each = |(cause, how): (&str, Cause)| {
         places.map(|(place, position)| with(&format!("{cause}_{place}"), position, how))
     };
     causes.into_iter().flat_map(each).collect()
@@ -363,21 +395,19 @@ fn earlier() -> Vec<Vector> {
 }
 
 /// Which check answers when several fail: each neighbouring pair that a table can
-/// fail, and an earlier record before a later one. `lengths` has 2 before 3 and 3
-/// before 4.
+/// fail. `lengths` has 2 before 3 and 3 before 4.
 fn first_answers() -> Vec<Vector> {
-    let padded = |v: &mut Vertex| v.padding = 1;
     let named_before = |v: &mut Vertex| v.author = 0;
     let few = |v: &mut Vertex| v.refs[..2].fill(0);
-    let unnamed = |v: &mut Vertex| v.refs[2] = 9;
     let sum_off_and_a_byte = [sum_off(p2().table(), 0, 1), vec![0]].concat();
-    vec![
+    let mut all = vec![
         checked("1_before_2", 5, vec![0; 137]),
         checked("2_before_4", 4, sum_off_and_a_byte),
-        checked("4_before_5", 4, sum_off(changed(5, padded), 5, 1)),
-        with("5_before_6", 5, |v| {
-            padded(v);
-            named_before(v);
+    ];
+    all.extend(pairs_up_to_6());
+    all.extend([
+        with("5_before_18_19_and_20", 5, |v| {
+            UP_TO_6[..4].iter().for_each(|(_, cause)| cause(v));
         }),
         with("6_before_7", 5, |v| {
             named_before(v);
@@ -385,15 +415,47 @@ fn first_answers() -> Vec<Vector> {
         }),
         with("7_before_8", 5, |v| {
             few(v);
-            unnamed(v);
+            names_nothing(v);
         }),
         // Far above all that is there, and above the bound of the row that is retired.
         with("8_for_round_1401", LAST, |v| v.round = 1_401),
-        checked(
-            "8_before_4_of_the_next",
-            4,
-            sum_off(changed(5, unnamed), 6, 1),
-        ),
+    ]);
+    all
+}
+
+/// Every pair of 4 and the rows up to 6, as a record may fail any two of them.
+fn pairs_up_to_6() -> Vec<Vector> {
+    let mut all = Vec::new();
+    for (i, &(first, cause)) in UP_TO_6.iter().enumerate() {
+        let off = sum_off(changed(5, cause), 5, 1);
+        all.push(checked(&format!("4_before_{first}"), 4, off));
+        for (second, other) in &UP_TO_6[i + 1..] {
+            // The first one last: it is to stay where both set the round.
+            let both = |v: &mut Vertex| {
+                other(v);
+                cause(v);
+            };
+            all.push(with(&format!("{first}_before_{second}"), 5, both));
+        }
+    }
+    all
+}
+
+/// All of an earlier record's checks come before any of a later one's.
+fn earlier_records_first() -> Vec<Vector> {
+    let two = |name: &str, cause: Cause, of_the_next: Cause| {
+        let mut made = p2();
+        cause(&mut made.vertices[5]);
+        of_the_next(&mut made.vertices[6]);
+        checked(name, 4, made.table())
+    };
+    let sum_off_behind = |cause: Cause| sum_off(changed(5, cause), 6, 1);
+    vec![
+        checked("18_before_4_of_the_next", 4, sum_off_behind(round_0)),
+        two("19_before_18_of_the_next", mark_0, round_0),
+        two("20_before_5_of_the_next", author_n, padding_1),
+        two("6_before_20_of_the_next", in_round_1, author_n),
+        checked("8_before_4_of_the_next", 4, sum_off_behind(names_nothing)),
     ]
 }
 

@@ -334,6 +334,11 @@ fn refused_tables_say_why() {
         ("p12", "X 6 1, refused: round 1, author 0, mark 1: the name is not above the one before it"),
         ("p13", "X 7 3, refused: round 2, author 0, mark 1: 2 references, fewer than 2f+1 = 3"),
         ("p14", "X 8 3, refused: round 2, author 0, mark 1: a reference names no record earlier in the table"),
+        ("padding", "X 5 6, refused: round 2, author 2, mark 1: the padding is 7 and ought to be 0"),
+        ("round_0", "X 18 5, refused: round 0, author 1, mark 1: the round is 0, and rounds start at 1"),
+        ("mark_0", "X 19 9, refused: round 3, author 1, mark 0: the mark is 0, and a mark is never 0"),
+        ("author_n", "X 20 7, refused: round 2, author 4, mark 1: the author is 4, and authors are 0 to 3"),
+        ("all_four", "X 5 8, refused: round 0, author 9, mark 0: the padding is 255 and ought to be 0"),
     ] {
         let picture = draw(&example(name));
         assert!(picture.contains(words), "{name}");
@@ -350,9 +355,10 @@ fn other_refusals_in_words() {
             "authors 5",
             "X 1 0, refused: 5 is not one of the author counts",
         ),
-        ("authors 4\nround 0 author 0", "rounds start at 1"),
-        ("authors 4\nround 1 author 0 mark 0", "a mark is never 0"),
-        ("authors 4\nround 1 author 9", "authors are 0 to 3"),
+        // Of several the words are about the one that is told.
+        ("authors 4\nround 0 author 9 mark 0", "rounds start at 1"),
+        ("authors 4\nround 1 author 9 mark 0", "a mark is never 0"),
+        ("authors 31\nround 1 author 255", "authors are 0 to 30"),
         (
             "authors 4\nround 1 author 0 refs 1",
             "a reference in round 1",

@@ -3,9 +3,11 @@
 mod attack;
 mod binary;
 mod calls;
+mod checks;
 mod drawn;
 mod easy_errors;
 mod examples;
+mod fields;
 mod generated;
 mod nine;
 mod past_f;

@@ -1,4 +1,4 @@
-//! Every part of checks 4 to 8, and which of several failing checks answers.
+//! Every part of the checks of a record, and which of several failing checks answers.
 
 use second::check::{check, Refusal};
 use second::examples::p2;
@@ -27,13 +27,29 @@ fn every_byte_is_summed() {
 }
 
 #[test]
-fn five() {
-    assert_eq!(changed(6, |v| v.padding = 1), Err(refusal(5, 6)));
-    assert_eq!(changed(6, |v| v.padding = 0x80), Err(refusal(5, 6)));
-    assert_eq!(changed(6, |v| v.round = 0), Err(refusal(5, 6)));
-    assert_eq!(changed(6, |v| v.mark = 0), Err(refusal(5, 6)));
-    assert_eq!(changed(6, |v| v.author = 4), Err(refusal(5, 6)));
-    assert_eq!(changed(6, |v| v.author = 255), Err(refusal(5, 6)));
+fn five_for_every_padding_but_0() {
+    for padding in 1..=255 {
+        assert_eq!(changed(6, |v| v.padding = padding), Err(refusal(5, 6)));
+    }
+}
+
+#[test]
+fn eighteen_and_nineteen() {
+    assert_eq!(changed(6, |v| v.round = 0), Err(refusal(18, 6)));
+    assert_eq!(changed(6, |v| v.mark = 0), Err(refusal(19, 6)));
+    // Only the whole number is 0 or is not.
+    assert_eq!(changed(11, |v| v.mark = 256), Ok(()));
+    assert_eq!(changed(11, |v| v.mark = 0x100_0000), Ok(()));
+    assert_eq!(changed(11, |v| v.round = 256), Err(refusal(8, 11)));
+}
+
+/// The last record of a round may be of any author that there is.
+#[test]
+fn twenty_for_every_author_past_the_last() {
+    for author in 4..=255 {
+        assert_eq!(changed(11, |v| v.author = author), Err(refusal(20, 11)));
+    }
+    assert_eq!(changed(11, |v| v.author = 3), Ok(()));
 }
 
 #[test]
@@ -151,19 +167,24 @@ fn of_checks_1_to_3_the_earliest() {
 
 /// One record that fails everything, mended from check to check.
 #[test]
-fn of_checks_4_to_8_the_earliest() {
+fn of_the_checks_of_a_record_the_earliest() {
     let mut made = p2();
-    let bad = &mut made.vertices[6];
+    let mut bad = vertex(0, 4, 0, &[(0, 7), (30, 1)]);
     bad.padding = 1;
-    bad.author = 0;
-    bad.refs = vertex(2, 0, 1, &[(0, 7), (30, 1)]).refs;
+    made.vertices[6] = bad;
     let mut table = made.table();
     table[6 * 138 + 136] ^= 1;
     assert_eq!(check(4, &table), Err(refusal(4, 6)));
     assert_eq!(checked(&made), Err(refusal(5, 6)));
     made.vertices[6].padding = 0;
-    assert_eq!(checked(&made), Err(refusal(6, 6)));
+    assert_eq!(checked(&made), Err(refusal(18, 6)));
+    made.vertices[6].round = 1;
+    assert_eq!(checked(&made), Err(refusal(19, 6)));
+    made.vertices[6].mark = 1;
+    assert_eq!(checked(&made), Err(refusal(20, 6)));
     made.vertices[6].author = 2;
+    assert_eq!(checked(&made), Err(refusal(6, 6)));
+    made.vertices[6].round = 2;
     assert_eq!(checked(&made), Err(refusal(7, 6)));
     made.vertices[6].refs = vertex(2, 2, 1, &[(0, 7), (1, 1), (2, 1)]).refs;
     assert_eq!(checked(&made), Err(refusal(8, 6)));
@@ -188,5 +209,6 @@ fn of_records_the_earliest() {
     table[7 * 138..8 * 138].copy_from_slice(&encode_mended(&p2().vertices[7]));
     assert_eq!(check(4, &table), Err(refusal(4, 8)));
     // A record of zeros has a right sum and round 0.
-    assert_eq!(check(4, &encode(&vertex(0, 0, 0, &[]))), Err(refusal(5, 0)));
+    let zeros = encode(&vertex(0, 0, 0, &[]));
+    assert_eq!(check(4, &zeros), Err(refusal(18, 0)));
 }

@@ -14,6 +14,9 @@ use std::path::{Path, PathBuf};
 /// Beside P1 to P14.
 const LARGER: [&str; 2] = ["equivocators", "morning"];
 
+/// For 5, 18, 19 and 20, each of which has a row of its own.
+const OF_FIELDS: [&str; 5] = ["padding", "round_0", "mark_0", "author_n", "all_four"];
+
 pub fn folder() -> PathBuf {
     Path::new(env!("CARGO_MANIFEST_DIR")).join("../examples")
 }
@@ -30,7 +33,8 @@ fn p_name(number: usize) -> String {
 
 pub fn names() -> Vec<String> {
     let p = (1..=14).map(p_name);
-    p.chain(LARGER.map(String::from)).collect()
+    let others = LARGER.into_iter().chain(OF_FIELDS);
+    p.chain(others.map(String::from)).collect()
 }
 
 #[test]

@@ -2,49 +2,38 @@
 -- Assumes nothing.
 use Prim.Native.Nat.{ℕ}
 use mathlib.Core.Path.{_≡_, refl, subst}
-use mathlib.Core.Bool.{Bool, true, false}
+use mathlib.Core.Bool.{Bool, false}
 use mathlib.Core.List.{List, [], _∷_}
-use lib.Dec.{eqb}
 use lib.ListN.{getD}
 use borrow.Author.Tests.{eqb-true, eqb-false, leb-true}
 use Rattle.folds.specs.Folds.{_or_}
-use Rattle.folds.proofs.Tests.{or-neither, not-true, not-false}
+use Rattle.folds.proofs.Tests.{not-true, not-false}
 use Rattle.rules.specs.Record.{Edition, records, vertices, at}
 use Rattle.rules.specs.Refusals.{refusal, _when_}
 use Rattle.rules.specs.Check.{paddingSet, roundZero, markZero, authorPast, checkRecord, checkTable, check}
-use Rattle.rules.specs.Fields.{Says, padding, round, mark, author, other}
+use Rattle.rules.specs.Fields.{ofFields, Says, padding, round, mark, author, other}
 use Rattle.rules.proofs.Refusals.{Tells, when-tells, then-tells, each-tells, when-passed}
 
 module _ (E : Edition) (n : ℕ) (t : List ℕ) where
   abbrev Said : ℕ → List ℕ → Type 0
   Said k ps = Says n (at (vertices E t) (getD ps 0 0)) k
 
-  row : (k p : ℕ) (b : Bool) → (b ≡ true → Says n (at (vertices E t) p) k) → Tells Said (refusal k p when b)
-  row k p b h = when-tells Said k _ b h
-
-  -- one that has none of the four numbers
-  abbrev oneOf : ℕ → Bool
-  oneOf k = eqb k 5 or eqb k 18 or eqb k 19 or eqb k 20
-
-  silent : (k p : ℕ) (b : Bool) → oneOf k ≡ false → Tells Said (refusal k p when b)
-  silent k p b e =
-      let e5 = or-neither _ _ e in
-      let e18 = or-neither _ _ (e5 .1) in
-      let e19 = or-neither _ _ (e18 .1) in
-      row k p b (λ _. other (eqb-false k 5 (e5 .0)) (eqb-false k 18 (e18 .0)) (eqb-false k 19 (e19 .0)) (eqb-false k 20 (e19 .1)))
+  -- a row that has none of the four numbers
+  silent : (k p : ℕ) (b : Bool) → ofFields k ≡ false → Tells Said (refusal k p when b)
+  silent k p b e = when-tells Said k (p ∷ []) b (λ _. other e)
 
   record-says : (p : ℕ) → Tells Said (checkRecord E n t (vertices E t) p)
   unfolding checkRecord paddingSet roundZero markZero authorPast _or_
   record-says p =
       let v = at (vertices E t) p in
       then-tells Said _ _ (silent 4 p _ refl) (λ _.
-      then-tells Said _ _ (row 5 p (paddingSet v) (λ e. padding refl (eqb-false _ _ (not-true _ e)))) (λ e5.
+      then-tells Said _ _ (when-tells Said 5 (p ∷ []) (paddingSet v) (λ e. padding refl (eqb-false _ _ (not-true _ e)))) (λ e5.
       let padded = eqb-true _ _ (not-false _ (when-passed _ _ _ e5)) in
-      then-tells Said _ _ (row 18 p (roundZero v) (λ e. round refl padded (eqb-true _ _ e))) (λ e18.
+      then-tells Said _ _ (when-tells Said 18 (p ∷ []) (roundZero v) (λ e. round refl padded (eqb-true _ _ e))) (λ e18.
       let rounded = eqb-false _ _ (when-passed _ _ _ e18) in
-      then-tells Said _ _ (row 19 p (markZero v) (λ e. mark refl padded rounded (eqb-true _ _ e))) (λ e19.
+      then-tells Said _ _ (when-tells Said 19 (p ∷ []) (markZero v) (λ e. mark refl padded rounded (eqb-true _ _ e))) (λ e19.
       let marked = eqb-false _ _ (when-passed _ _ _ e19) in
-      then-tells Said _ _ (row 20 p (authorPast n v) (λ e. author refl padded rounded marked (leb-true _ _ e))) (λ _.
+      then-tells Said _ _ (when-tells Said 20 (p ∷ []) (authorPast n v) (λ e. author refl padded rounded marked (leb-true _ _ e))) (λ _.
       then-tells Said _ _ (silent 6 p _ refl) (λ _.
       then-tells Said _ _ (silent 7 p _ refl) (λ _.
       silent 8 p _ refl)))))))

@@ -164,16 +164,13 @@ module _ (P : ℕ → List ℕ → Type 0) where
 
 -- ---- what an answer tells fixes the answer
 
--- the refusals by their numbers, from 0 on; Input stands where no refusal has the number
-numbered : ℕ → List Refusal
-numbered p =
-    Input ∷ Authors ∷ Length ∷ Records ∷ Sum p ∷ Padding p ∷ Rising p ∷ Entries p ∷ Earlier p ∷ Input ∷ Lent ∷ Unnamed ∷ Input
-    ∷ Input ∷ Input ∷ Input ∷ Input ∷ Input ∷ RoundZero p ∷ MarkZero p ∷ AuthorPast p ∷ []
-
--- the refusal with a number and a position
+-- the refusal with a number and a position, by its place in the list; Input stands where no refusal has the number
 unnumber : ℕ → ℕ → Refusal
-unfolding numbered
-unnumber k p = getD (numbered p) k Input
+unnumber k p =
+    let numbered =
+    Input ∷ Authors ∷ Length ∷ Records ∷ Sum p ∷ Padding p ∷ Rising p ∷ Entries p ∷ Earlier p ∷ Input ∷ Lent ∷ Unnamed ∷ Input
+    ∷ Input ∷ Input ∷ Input ∷ Input ∷ Input ∷ RoundZero p ∷ MarkZero p ∷ AuthorPast p ∷ [] in
+    getD numbered k Input
 
 -- What each row is: it has its own number, above 0, and one value, the position.
 record Rowed (r : Refusal) : Type 0 where

@@ -4,11 +4,19 @@
 use Prim.Native.Nat.{ℕ, _≤_}
 use mathlib.Core.Path.{_≡_}
 use mathlib.Core.Logic.{_≢_}
+use mathlib.Core.Bool.{Bool, false}
+use lib.Dec.{eqb}
+use Rattle.folds.specs.Folds.{_or_}
 use Rattle.rules.specs.declared.Vertex.{Vertex}
 
+-- The four numbers.
+abbrev pub ofFields : ℕ → Bool
+ofFields k = eqb k 5 or eqb k 18 or eqb k 19 or eqb k 20
+
+-- What the number k says of the vertex v. Of several wrong fields the first is told, so a later number says that the fields before it are right.
 pub data Says (n : ℕ) (v : Vertex) (k : ℕ) : Type 0 where
   padding : k ≡ 5 → v .padding ≢ 0 → Says n v k
   round : k ≡ 18 → v .padding ≡ 0 → v .round ≡ 0 → Says n v k
   mark : k ≡ 19 → v .padding ≡ 0 → v .round ≢ 0 → v .mark ≡ 0 → Says n v k
   author : k ≡ 20 → v .padding ≡ 0 → v .round ≢ 0 → v .mark ≢ 0 → n ≤ v .author → Says n v k
-  other : k ≢ 5 → k ≢ 18 → k ≢ 19 → k ≢ 20 → Says n v k
+  other : ofFields k ≡ false → Says n v k

@@ -45,8 +45,7 @@ ready n t p v R e =
     let e4 = then-both _ _ e in
     let e5 = then-both _ _ (e4 .1) in
     let e6 = then-both _ _ (e5 .1) in
-    let e18 = then-both _ _ (then-both _ _ (e5 .0) .1) in
-    let round : roundZero v ≡ false = rw (R .is) (when-passed _ _ _ (e18 .0)) in
+    let round : roundZero v ≡ false = rw (R .is) (when-passed _ _ _ (then-both _ _ (then-both _ _ (e5 .0) .1) .0)) in
     record {
       few = count-is n (R .count) .most;
       within = R .within;

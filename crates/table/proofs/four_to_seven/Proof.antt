@@ -17,17 +17,8 @@ returns c =
     let told = rw (g .pre .is) at (fields .check-fields .ensures) in
     let entries = rw (g .pre .is) at (seven .before .entries-wrong .ensures) in
     c .first-of3 .ensures
-    ∙ rw (
-      four .row .ensures,
-      sum,
-      c .before .first-of2 .ensures,
-      told,
-      c .before .before .first-of .ensures,
-      six .row2 .ensures,
-      six .before .not-above .ensures,
-      seven .row3 .ensures,
-      entries,
-    ) refl
+    ∙ rw (four .row .ensures, sum, c .before .first-of2 .ensures, told, c .before .before .first-of .ensures)
+    (rw (six .row2 .ensures, six .before .not-above .ensures, seven .row3 .ensures, entries) refl)
 
 pub four-to-seven-spec : {M : Type 1} → statement M
 four-to-seven-spec =

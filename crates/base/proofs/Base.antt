@@ -14,7 +14,7 @@ use Rattle.rules.specs.Decide.{boxSetting}
 use Rattle.rules.specs.Order.{order}
 use Rattle.rules.specs.Settlement.{Buffers, lentCheck, tooShort, settled, settleIf, settle}
 use Rattle.rules.proofs.Refusals.{then-passed, when-no, nine-retired}
-use Rattle.rules.proofs.Fields.{fields}
+use Rattle.rules.proofs.Fields.{fields-told}
 use Rattle.rules.proofs.Rounds.{table-rounds}
 use Rattle.rules.proofs.Nine.{nine-never}
 use Rattle.rules.proofs.Settled.{enough-lent}
@@ -97,7 +97,7 @@ base = record {
   past-f = past-f;
   nine-never = nine-never first;
   nine-retired = nine-retired;
-  fields = fields first;
+  fields = fields-told first;
   rounds = table-rounds first;
   enough = enough-lent first;
 }

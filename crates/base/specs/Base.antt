@@ -10,15 +10,15 @@ use denote.Ref.{now}
 use Rattle.rules.specs.declared.Counts.{Counts}
 use Rattle.rules.specs.declared.Refusal.{Refusal}
 use Rattle.rules.specs.declared.Settlement.{Settlement}
-use Rattle.rules.specs.Record.{first, vertices, at}
-use Rattle.rules.specs.Refusals.{gives, refused, refusal, passed, rowOf, outcomeTells}
+use Rattle.rules.specs.Record.{first, vertices}
+use Rattle.rules.specs.Refusals.{gives, refused, passed, rowOf, outcomeTells}
 use Rattle.rules.specs.Check.{check}
-use Rattle.rules.specs.Fields.{Says}
 use Rattle.rules.specs.Nine.{checkWith9}
 use Rattle.rules.specs.Decision.{cell}
 use Rattle.rules.specs.Decide.{boxSetting, highest, decisions}
 use Rattle.rules.specs.Order.{order}
 use Rattle.rules.specs.Settlement.{Buffers, lent, tooShort, lentCheck, countsOf, takenBytes, writtenOver}
+use Rattle.rules.specs.Fields.{FieldsTold}
 use Rattle.rules.specs.Rounds.{mostRounds, Enough}
 use Rattle.rules.specs.Written.{Demand2Order}
 use Rattle.examples.specs.Examples.{Hold}
@@ -93,8 +93,8 @@ pub record Base : Type 2 where
   -- request h: with row 9 in its place the check answers the same, and no refusal has that number
   pub nine-never : (n : ℕ) (t : List ℕ) → checkWith9 first n t ≡ check first n t
   pub nine-retired : (r : Refusal) → rowOf r .number ≢ 9
-  -- request f: 5 is given for padding only, 18, 19 and 20 for round, mark and author
-  pub fields : (n : ℕ) (t : List ℕ) (k p : ℕ) → check first n t ≡ refusal k p → Says n (at (vertices first t) p) k
+  -- request f: 5 is given for padding only, 18, 19 and 20 for round, mark and author, by every call that checks a table
+  pub fields : (n : ℕ) (t : List ℕ) → FieldsTold first n t
   -- how many rounds a table has at most; and who lends enough for that is refused for what the check refuses, which has no row 10
   pub rounds : (n : ℕ) (t : List ℕ) → check first n t ≡ passed → highest (vertices first t) ≤ mostRounds n
   pub enough : (n : ℕ) (t : List ℕ) (b : Buffers) → Enough b → lentCheck (boxSetting n) first n t b ≡ check first n t

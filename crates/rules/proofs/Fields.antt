@@ -11,7 +11,9 @@ use Rattle.folds.proofs.Tests.{not-true, not-false}
 use Rattle.rules.specs.Record.{Edition, records, vertices, at}
 use Rattle.rules.specs.Refusals.{refusal, _when_}
 use Rattle.rules.specs.Check.{paddingSet, roundZero, markZero, authorPast, checkRecord, checkTable, check}
-use Rattle.rules.specs.Fields.{ofFields, Says, padding, round, mark, author, other}
+use Rattle.rules.specs.Lookup.{lookupCheck}
+use Rattle.rules.specs.Settlement.{lentCheck}
+use Rattle.rules.specs.Fields.{ofFields, Says, padding, round, mark, author, other, FieldsTold}
 use Rattle.rules.proofs.Refusals.{Tells, when-tells, then-tells, each-tells, when-passed}
 
 module _ (E : Edition) (n : ℕ) (t : List ℕ) where
@@ -38,12 +40,18 @@ module _ (E : Edition) (n : ℕ) (t : List ℕ) where
       then-tells Said _ _ (silent 7 p _ refl) (λ _.
       silent 8 p _ refl)))))))
 
-  -- what the check's number says
-  pub fields : (k p : ℕ) → check E n t ≡ refusal k p → Says n (at (vertices E t) p) k
+  check-says : Tells Said (check E n t)
   unfolding check checkTable _or_
-  fields k p e =
-      subst (Tells Said) e
-      (then-tells Said _ _ (silent 1 0 _ refl) (λ _.
+  check-says =
+      then-tells Said _ _ (silent 1 0 _ refl) (λ _.
       then-tells Said _ _ (silent 2 0 _ refl) (λ _.
       then-tells Said _ _ (silent 3 0 _ refl) (λ _.
-      each-tells Said _ (records E t) (λ p _. record-says p)))))
+      each-tells Said _ (records E t) (λ p _. record-says p))))
+
+  pub fields-told : FieldsTold E n t
+  unfolding lookupCheck lentCheck _or_
+  fields-told = record {
+    checked = λ k p e. subst (Tells Said) e check-says;
+    looked-up = λ x k p e. subst (Tells Said) e (then-tells Said _ _ check-says (λ _. silent 11 0 _ refl));
+    settled = λ C b k p e. subst (Tells Said) e (then-tells Said _ _ check-says (λ _. silent 10 0 _ refl));
+  }

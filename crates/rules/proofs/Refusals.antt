@@ -124,12 +124,6 @@ each-passed c (suc k) e i l = ⊎-elim (λ q. ap c q ∙ both .1) (λ h. each-pa
     both : (eachTo c k ≡ passed) × (c k ≡ passed)
     both = then-both _ _ e
 
--- and if each is, all is
-pub each-all : (c : ℕ → Told (Unit {0})) (k : ℕ) → ((i : ℕ) → i < k → c i ≡ passed) → eachTo c k ≡ passed
-unfolding eachTo
-each-all c zero h = refl
-each-all c (suc k) h = then-passed _ _ (each-all c k (λ i l. h i (le-step l))) ∙ h k (le-refl (suc k))
-
 -- a last row that refuses nothing that all other rows have passed so far can be left out
 pub each-without : (c d : ℕ → Told (Unit {0})) (k : ℕ) → ((i : ℕ) → i < k → eachTo c (suc i) ≡ passed → d i ≡ passed)
     → eachTo (λ i. c i then d i) k ≡ eachTo c k

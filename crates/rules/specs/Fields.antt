@@ -5,9 +5,17 @@ use Prim.Native.Nat.{ℕ, _≤_}
 use mathlib.Core.Path.{_≡_}
 use mathlib.Core.Logic.{_≢_}
 use mathlib.Core.Bool.{Bool, false}
+use mathlib.Core.List.{List}
 use lib.Dec.{eqb}
 use Rattle.folds.specs.Folds.{_or_}
+use Rattle.rules.specs.declared.Name.{Name}
 use Rattle.rules.specs.declared.Vertex.{Vertex}
+use Rattle.rules.specs.Record.{Edition, vertices, at}
+use Rattle.rules.specs.Refusals.{refusal}
+use Rattle.rules.specs.Check.{check}
+use Rattle.rules.specs.Lookup.{lookupCheck}
+use Rattle.rules.specs.Decide.{Setting}
+use Rattle.rules.specs.Settlement.{Buffers, lentCheck}
 
 -- The four numbers.
 abbrev pub ofFields : ℕ → Bool
@@ -20,3 +28,9 @@ pub data Says (n : ℕ) (v : Vertex) (k : ℕ) : Type 0 where
   mark : k ≡ 19 → v .padding ≡ 0 → v .round ≢ 0 → v .mark ≡ 0 → Says n v k
   author : k ≡ 20 → v .padding ≡ 0 → v .round ≢ 0 → v .mark ≢ 0 → n ≤ v .author → Says n v k
   other : ofFields k ≡ false → Says n v k
+
+-- Whichever call tells it.
+pub record FieldsTold (E : Edition) (n : ℕ) (t : List ℕ) : Type 0 where
+  pub checked : (k p : ℕ) → check E n t ≡ refusal k p → Says n (at (vertices E t) p) k
+  pub looked-up : (x : Name) (k p : ℕ) → lookupCheck E n t x ≡ refusal k p → Says n (at (vertices E t) p) k
+  pub settled : (C : Setting) (b : Buffers) (k p : ℕ) → lentCheck C E n t b ≡ refusal k p → Says n (at (vertices E t) p) k

@@ -2,7 +2,6 @@ pub mod Authors
 pub mod Record
 pub mod Refusals
 pub mod Check
-pub mod Fields
 pub mod Nine
 pub mod Lookup
 pub mod Decision
@@ -12,6 +11,7 @@ pub mod Decide
 pub mod Order
 pub mod Written
 pub mod Settlement
+pub mod Fields
 pub mod Rounds
 pub mod Program
 pub mod Open

@@ -155,7 +155,7 @@ fn four_to_seven(n: u8, table: &[u8], p: usize, v: Vertex) -> Checked
     first_of(four, first_of(fields, first_of(six, seven)))
 }
 
-// 4 to 8. The search of row 8 relies on what the rows before it say.
+// All rows of a record. The search of row 8 relies on what the rows before it say.
 fn check_record(n: u8, table: &[u8], p: usize, v: Vertex) -> Checked
     requires { ⌜ Reached n (now table) p v ⌝ }
     ensures { λ r. ⌜ checkTells r ≡ checkRecord first n (now (table .entry)) (vertices first (now (table .entry))) p ⌝ }

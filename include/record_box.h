@@ -62,7 +62,7 @@ enum record_box_number {
     RECORD_BOX_LENGTH = 2,      /* the length is not a multiple of 138 */
     RECORD_BOX_RECORDS = 3,     /* more than 4,096 records */
     RECORD_BOX_SUM = 4,         /* the sum differs */
-    RECORD_BOX_PADDING = 5,     /* padding not zero, and nothing else */
+    RECORD_BOX_PADDING = 5,     /* padding not zero; it is given for nothing else */
     RECORD_BOX_RISING = 6,      /* the name is not above the one before it, by round, then author, then mark */
     RECORD_BOX_ENTRIES = 7,     /* round 1 with an entry; or an entry for author n or more; or round above 1 with fewer than 2f+1 */
     RECORD_BOX_EARLIER = 8,     /* some entry names no record earlier in the table */

@@ -16,7 +16,7 @@ use tally::smaller;
 
 const ENTRIES: usize = 31;
 
-// Rows 5, 18, 19 and 20 of the record at p. Padding comes first, since it speaks of the card; the others speak of the author.
+// Rows 5, 18, 19 and 20 of the record at p, in document 02's order. Staff replace the card for the first and call the author's owner for the others.
 pub fn check_fields(n: u8, p: usize, v: Vertex) -> Checked
     ensures { λ r. ⌜ checkTells r ≡ checkFields n p v ⌝ }
 {

@@ -9,7 +9,7 @@ use lib.Dec.{eqb}
 use borrow.Author.Tests.{eqb-false}
 use Rattle.rules.specs.declared.Vertex.{Vertex}
 use Rattle.rules.specs.Authors.{isCount}
-use Rattle.rules.specs.Record.{first, recordAt, decode, sumOf, records, vertices, at}
+use Rattle.rules.specs.Record.{first, recordAt, decode, sumOf, records, vertices}
 use Rattle.rules.specs.Refusals.{Told, refusal, passed, _when_, _then_, eachTo}
 use Rattle.rules.specs.Check.{sumDiffers, roundZero, notEarlier, checkRecord}
 use Rattle.rules.proofs.Records.{vertices-at}

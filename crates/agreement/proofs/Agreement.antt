@@ -63,7 +63,7 @@ module _ {n : ℕ} {step : StepRule} {W : World n step} {us ws : List Vertex} (T
 -- ---- two tables as bytes
 
 pub together : {E : Edition} {n : ℕ} {t u : List ℕ} → Premises E n t u → Together n (vertices E t) (vertices E u)
-together {E} {n} {t} {u} P = record { one = accepted E n t P.one-Passes; other = accepted E n u P.other_passes; same = same; few = P.few }
+together {E} {n} {t} {u} P = record { one = accepted E n t P.one_passes; other = accepted E n u P.other_passes; same = same; few = P.few }
   where
     same : (p q : ℕ) → p < length (vertices E t) → q < length (vertices E u) → name_of (at (vertices E t) p) ≡ name_of (at (vertices E u) q)
         → at (vertices E t) p ≡ at (vertices E u) q

@@ -1,1 +1,2 @@
 // What is proved of the base, in one statement. Definitions and theorems only, no code.
+#![tactic(auto)]

@@ -17,7 +17,7 @@ use references::places_of;
 use tally::smaller;
 
 // How far the history of an anchor is marked: from `done` on, all are looked at. A position past the records is no anchor.
-#[derive(Drop)]
+#[derive(Clone, Copy)]
 pub(crate) struct Walk {
     pub anchor: usize,
     pub done: usize,

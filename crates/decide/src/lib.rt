@@ -1,4 +1,6 @@
 // The decisions of a table in lent cells, one for each round.
+#![tactic(auto)]
+
 ghost use Rattle.std.specs.Prelude.{◌≡◌, ◌≤◌, length};
 ghost use Rattle.rules.specs.Settlement.{lent};
 ghost use Rattle.folds.specs.Folds.{bytes_over};

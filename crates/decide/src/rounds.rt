@@ -16,7 +16,7 @@ use search::highest_of;
 use stops::{cell_at, stop_at};
 
 // A round's cell, and how far the history of an anchor is marked then.
-#[derive(Drop)]
+#[derive(Clone, Copy)]
 pub(crate) struct Round {
     pub cell: u32,
     pub walk: Walk,

@@ -1,5 +1,7 @@
 // What C and Rust call: thin functions over the calls of the library, each equal to its call on all inputs. C has no enum whose
 // cases carry values, so an answer goes out as document 01's number and position. include/record_box.h has the declarations.
+#![tactic(auto)]
+
 ghost use Rattle.std.specs.Prelude.{◌≡◌};
 ghost use Rattle.rules.specs.declared.Checked.TheVariants as Checked;
 ghost use Rattle.rules.specs.Refusals.{check_tells, lookup_tells, outcome_tells};
@@ -15,7 +17,7 @@ use rules::{Checked, LookupAnswer, Name, Outcome, Refusal};
 
 // The number and the position of a refusal; number 0 says that there is none.
 #[repr(C)]
-#[derive(Drop)]
+#[derive(Clone, Copy)]
 pub struct Answer {
     pub number: u32,
     pub position: usize,
@@ -23,7 +25,7 @@ pub struct Answer {
 
 // A part of the lent table: the byte at which it begins, and how many bytes it has.
 #[repr(C)]
-#[derive(Drop)]
+#[derive(Clone, Copy)]
 pub struct Part {
     pub begin: usize,
     pub length: usize,
@@ -31,7 +33,7 @@ pub struct Part {
 
 // What a settlement gives: number 0 and the counts, or a refusal's number and position with every count 0.
 #[repr(C)]
-#[derive(Drop)]
+#[derive(Clone, Copy)]
 pub struct SettledNumbers {
     pub number: u32,
     pub position: usize,

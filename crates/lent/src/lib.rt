@@ -1,4 +1,6 @@
 // The check of a table together with what is lent for its settlement.
+#![tactic(auto)]
+
 ghost use Rattle.std.specs.Prelude.{◌≡◌};
 ghost use Rattle.rules.specs.Record.{first};
 ghost use Rattle.rules.specs.Refusals.{check_tells};

@@ -1,4 +1,6 @@
 // The bytes of each printed line. Nothing is printed here: a line is put together by value and then copied into a buffer that the caller lends.
+#![tactic(auto)]
+
 ghost use Rattle.std.specs.Prelude.{◌≡◌, [], ◌∷◌, ◌++◌, ◌+◌, ◌<◌, ◌≤◌, length};
 ghost use Rattle.rules.specs.Refusals.{row_of};
 ghost use Rattle.rules.specs.Program.{line_x, line_s};
@@ -10,14 +12,14 @@ use rules::{Counts, Name, Refusal};
 
 // A line as far as it is put together: the first `len` bytes. The longest has a letter, five numbers of up to 20 digits with a space before
 // each, and its end: 107 bytes.
-#[derive(Drop)]
+#[derive(Clone, Copy)]
 struct Line {
     bytes: [u8; 112],
     len: usize,
 }
 
 // The digits of a number: the bytes from `start` on.
-#[derive(Drop)]
+#[derive(Clone, Copy)]
 struct Digits {
     bytes: [u8; 20],
     start: usize,

@@ -1,4 +1,6 @@
 // The lookup of one record by its name, and the second question: why there is none.
+#![tactic(auto)]
+
 ghost use Rattle.std.specs.Prelude.{◌≡◌};
 ghost use Rattle.rules.specs.Record.{first, named};
 ghost use Rattle.rules.specs.Refusals.{lookup_tells};
@@ -10,7 +12,7 @@ use record::{part, records_of};
 use rules::{Checked, LookupAnswer, Name, Refusal};
 
 // Where a record stands, or why it stands nowhere.
-#[derive(Drop)]
+#[derive(Clone, Copy)]
 pub enum Standing {
     At { position: usize },
     Refused(Refusal),

@@ -1,4 +1,6 @@
 // Two names compared, and where a search by halves goes on by the answer.
+#![tactic(auto)]
+
 ghost use Rattle.std.specs.Prelude.{◌≡◌, ◌+◌, ◌%◌, if◌then◌else◌};
 ghost use Rattle.rules.specs.Record.{same_name};
 ghost use Rattle.rules.specs.Record.{below as isBelow};

@@ -1,4 +1,6 @@
 // Numbers in lent bytes, little-endian and unsigned. A read past the end is 0, so no function asks its caller for anything.
+#![tactic(auto)]
+
 ghost use Rattle.std.specs.Prelude.{◌≡◌, ◌+◌, ◌-◌, ◌*◌, get_or, drop};
 ghost use Rattle.rules.specs.Record.{number};
 

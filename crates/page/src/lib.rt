@@ -1,4 +1,6 @@
 // All that the program prints, in one lent buffer.
+#![tactic(auto)]
+
 ghost use Rattle.io.specs.Counts.{IsPrefixLen};
 ghost use Rattle.rules.specs.Refusals.{outcome_tells};
 ghost use Rattle.page.specs.Page.{OutputPage};

@@ -1,4 +1,6 @@
 // One record, read from lent bytes. A read past the end is 0, so no function asks its caller for anything.
+#![tactic(auto)]
+
 ghost use Rattle.std.specs.Prelude.{◌≡◌};
 ghost use Rattle.record.specs.Part.{RecordPart};
 ghost use Rattle.rules.specs.Record.{first, records, vertices, at, decode as decoded, name_of, entry};

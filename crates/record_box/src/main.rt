@@ -1,13 +1,15 @@
 // The program of document 01: n and a table from standard input, and to standard output what the settlement says of them, line by line.
 // Reading and writing stand here alone: `respond` promises all that is printed for what was read.
+#![tactic(auto)]
+
 ghost use Rattle.std.specs.Prelude.{◌≡◌, ◌≤◌, length, take, drop};
 ghost use Rattle.io.specs.Counts.{IsPrefixLen};
 ghost use Rattle.rules.specs.Settlement.{lent};
 ghost use Rattle.rules.specs.Program.{printed};
 ghost use Rattle.record_box.specs.Answer.{Answers};
 
-use libc::{STDERR_FILENO, STDIN_FILENO, STDOUT_FILENO};
 use rules::{Outcome, Refusal, Settlement};
+use std::io::{Print, Read};
 
 // One byte n, then 474 records.
 const HOLDS: usize = 65413;
@@ -52,31 +54,36 @@ fn answer(input: &[u8], cells: &mut [u32], order: &mut [u32], taken: &mut [u8]) 
 }
 
 // How many bytes were read, and whether that is the input up to its end or to that of the buffer: else a read failed.
-#[derive(Drop)]
+#[derive(Clone, Copy)]
 struct Input {
     length: usize,
     whole: bool,
 }
 
 // One read: how many bytes came, 0 at the end of the input.
-fn read_once(fd: i32, buf: &mut [u8]) -> Input
+fn read_once<R: Read>(from: &mut R, buf: &mut [u8]) -> Input
     ensures { result.length ≤ length buf.old }
 {
-    let got = libc::read(fd, buf);
-    Input {
-        length: io::count(got, buf),
-        whole: 0 <= got,
+    match from.read(buf) {
+        Ok(k) => Input {
+            length: k,
+            whole: true,
+        },
+        Err(_) => Input {
+            length: 0,
+            whole: false,
+        },
     }
 }
 
 // A read that fails is not the end of the input: what came before it is no table. A read that was interrupted, or would have to wait, has
 // failed too, because nothing bounds how often it would have to be tried again.
-fn read_whole(fd: i32, buf: &mut [u8]) -> Input
+fn read_whole<R: Read>(from: &mut R, buf: &mut [u8]) -> Input
     ensures { IsPrefixLen result.length buf.new }
 {
     let mut done: usize = 0;
     while done < buf.len() {
-        let more = read_once(fd, &mut buf[done..]);
+        let more = read_once(from, &mut buf[done..]);
         if more.length == 0 {
             return Input {
                 length: done,
@@ -111,22 +118,31 @@ fn respond(input: &[u8], out: &mut [u8]) -> usize
     page::output_page(s, table_of(input), &cells, &order, out)
 }
 
-fn print(input: &[u8]) {
+// Nothing is left to say where not even standard error takes it.
+fn complain<P: Print>(to: &P, what: &[u8]) {
+    match to.write_all(what) {
+        Ok(()) => {}
+        Err(_) => {}
+    }
+}
+
+fn print(rt: &HostRuntime, input: &[u8]) {
     let mut out = blank_page();
     let k = respond(input, &mut out);
-    if !io::write_all(STDOUT_FILENO, &out[..k]) {
-        io::write_all(STDERR_FILENO, b"record_box: writing failed\n");
+    match rt.stdout().write_all(&out[..k]) {
+        Ok(()) => {}
+        Err(_) => complain(&rt.stderr(), b"record_box: writing failed\n"),
     }
 }
 
 // The buffer takes more than the program holds, so that an input that is too long is told by its length.
-fn main() {
+fn main(rt: HostRuntime) {
     let mut input = io::large_buffer();
-    let got = read_whole(STDIN_FILENO, &mut input);
+    let got = read_whole(&mut rt.stdin(), &mut input);
     let k = got.length;
     if got.whole {
-        print(&input[..k]);
+        print(&rt, &input[..k]);
     } else {
-        io::write_all(STDERR_FILENO, b"record_box: reading failed\n");
+        complain(&rt.stderr(), b"record_box: reading failed\n");
     }
 }

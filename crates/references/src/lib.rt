@@ -1,4 +1,6 @@
 // The references of a record, resolved: where each one stands. What follows references asks here, so that they are found in one place.
+#![tactic(auto)]
+
 ghost use Rattle.std.specs.Prelude.{◌≡◌, pred};
 ghost use Rattle.references.specs.Places.{places_of};
 

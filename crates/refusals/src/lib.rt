@@ -1,4 +1,6 @@
 // Document 01's number and position of a refusal, for all that tell it: the lines and the exports.
+#![tactic(auto)]
+
 ghost use Rattle.std.specs.Prelude.{◌≡◌};
 ghost use Rattle.rules.specs.declared.Checked.TheVariants as Checked;
 ghost use Rattle.rules.specs.Refusals.{check_tells};
@@ -6,7 +8,7 @@ ghost use Rattle.refusals.specs.Numbers.{numbered_as, number_at};
 
 use rules::Refusal;
 
-#[derive(Drop)]
+#[derive(Clone, Copy)]
 pub struct Numbered {
     pub number: u32,
     pub position: usize,

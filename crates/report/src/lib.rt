@@ -1,4 +1,6 @@
 // Which line stands where in what the program prints: its line i, for a settlement and the cells and order places that it left.
+#![tactic(auto)]
+
 ghost use Rattle.std.specs.Prelude.{◌≡◌, ◌+◌, min, get_or};
 ghost use Rattle.rules.specs.Record.{first, vertices};
 ghost use Rattle.rules.specs.Refusals.{outcome_tells};

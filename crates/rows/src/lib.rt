@@ -1,4 +1,6 @@
 // Rows of the check that look at one decoded record by itself: 5, 18, 19 and 20, which tell which field is wrong, and 7.
+#![tactic(auto)]
+
 ghost use Rattle.std.specs.Prelude.{◌≡◌, not, ◌≤◌, eqb, get_or};
 ghost use Rattle.folds.specs.Folds.{count_to};
 ghost use Rattle.rules.specs.Refusals.{check_tells};

@@ -1,7 +1,8 @@
 // The words of document 01 as types, shared by the definitions in specs/ and by the code of every other crate. No function stands here.
+#![tactic(auto)]
 
 // What tells vertices apart.
-#[derive(Drop)]
+#[derive(Clone, Copy)]
 pub struct Name {
     pub round: u32,
     pub author: u8,
@@ -9,7 +10,7 @@ pub struct Name {
 }
 
 // A record, decoded.
-#[derive(Drop)]
+#[derive(Clone, Copy)]
 pub struct Vertex {
     pub round: u32,
     pub mark: u32,
@@ -21,7 +22,7 @@ pub struct Vertex {
 }
 
 // Why a call is refused. A case whose check is put to records carries the record's position.
-#[derive(Drop)]
+#[derive(Clone, Copy)]
 pub enum Refusal {
     Authors,
     Length,
@@ -40,14 +41,14 @@ pub enum Refusal {
 }
 
 // What the check tells.
-#[derive(Drop)]
+#[derive(Clone, Copy)]
 pub enum Checked {
     Passed,
     Refused(Refusal),
 }
 
 // What a settled outcome has.
-#[derive(Drop)]
+#[derive(Clone, Copy)]
 pub struct Counts {
     pub records: usize,
     pub highest: u32,
@@ -57,19 +58,19 @@ pub struct Counts {
 }
 
 // What the settlement gives.
-#[derive(Drop)]
+#[derive(Clone, Copy)]
 pub enum Outcome {
     Settled(Counts),
     Refused(Refusal),
 }
 
-#[derive(Drop)]
+#[derive(Clone, Copy)]
 pub struct Settlement {
     pub outcome: Outcome,
 }
 
 // What the lookup's second question gives.
-#[derive(Drop)]
+#[derive(Clone, Copy)]
 pub enum LookupAnswer {
     Found,
     Refused(Refusal),

@@ -1,5 +1,7 @@
 // The search by name in a table, by halves, and the highest round. Nothing is asked of the table: what is answered on names that do not
 // rise is defined too.
+#![tactic(auto)]
+
 ghost use Rattle.std.specs.Prelude.{◌≡◌, ◌≤◌, min};
 ghost use Rattle.rules.specs.Record.{first, records, vertices};
 ghost use Rattle.rules.specs.Decide.{highest};

@@ -1,4 +1,6 @@
 // The settlement: the decisions, the written order and the counts of a table, in lent buffers.
+#![tactic(auto)]
+
 ghost use Rattle.std.specs.Prelude.{◌≡◌};
 ghost use Rattle.rules.specs.Settlement.{lent};
 ghost use Rattle.settlement.specs.Promise.{SettlesTo};

@@ -1,4 +1,6 @@
 // Where the indirect search for an anchor stops, told by the decision cells.
+#![tactic(auto)]
+
 ghost use Rattle.std.specs.Prelude.{◌≡◌, ◌+◌, get_or};
 ghost use Rattle.stops.specs.Stops.{stop_at};
 

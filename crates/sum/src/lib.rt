@@ -1,4 +1,6 @@
 // The sum that a record should carry, of lent bytes. A read past the end is 0, so nothing is asked of the caller.
+#![tactic(auto)]
+
 ghost use Rattle.std.specs.Prelude.{◌≡◌};
 ghost use Rattle.rules.specs.Record.{first, sum_of};
 

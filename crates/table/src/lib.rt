@@ -1,4 +1,6 @@
 // The check of a table: each row of document 01's list is a function that answers, and the first that refuses is the answer.
+#![tactic(auto)]
+
 ghost use Rattle.std.specs.Prelude.{◌≡◌, true, not, ◌<◌, eqb};
 ghost use Rattle.rules.specs.Authors.{is_count};
 ghost use Rattle.rules.specs.Record.{first, sum_of, records, vertices};

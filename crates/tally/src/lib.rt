@@ -1,4 +1,6 @@
 // Counts of authors and of marks, by value: what a quorum is, which mark enough references back, and that an author counts once.
+#![tactic(auto)]
+
 ghost use Rattle.std.specs.Prelude.{◌≡◌, min};
 ghost use Rattle.rules.specs.Authors.{quorum};
 ghost use Rattle.tally.specs.Marks.{count_mark, enough_of};

@@ -1,10 +1,15 @@
 // Stored tables, one after the other: the arguments are names of files of data/, and what the proved calls say of each is printed under its name.
 // A file has one byte for the question; for a lookup the name that is asked for, for settlements how many and the three lengths of what is
 // lent to each; then n, then the table.
-ghost use Rattle.std.specs.Prelude.{◌≡◌, ◌≤◌, length};
+#![tactic(auto)]
 
-use libc::STDOUT_FILENO;
+ghost use Rattle.std.specs.Prelude.{◌≡◌, ◌≤◌, IfOk, length};
+ghost use Rattle.io.specs.Counts.{IsPrefixLen};
+
 use rules::{Checked, LookupAnswer, Name, Refusal, Settlement};
+use std::env::Env;
+use std::fs::{File, Files};
+use std::io::{Print, Read, Result};
 
 // The check is question 0.
 const LOOKUP: u8 = 1;
@@ -16,7 +21,7 @@ const TWICE: u8 = 2;
 const SETTLE: u8 = 3;
 
 // How many cells, order places and taken bytes are lent.
-#[derive(Drop)]
+#[derive(Clone, Copy)]
 struct Lent {
     cells: usize,
     order: usize,
@@ -24,7 +29,7 @@ struct Lent {
 }
 
 // The same number in places that follow each other.
-#[derive(Drop)]
+#[derive(Clone, Copy)]
 struct Run {
     number: u32,
     times: usize,
@@ -68,49 +73,50 @@ fn shortened(b: &[u8]) -> &[u8] {
     b
 }
 
-fn say(text: &[u8]) {
-    io::write_all(STDOUT_FILENO, text);
+fn say<P: Print>(rt: &P, text: &[u8]) -> Result<()> {
+    rt.write_all(text)
 }
 
-fn say_refused(r: Refusal) {
+fn say_refused<P: Print>(rt: &P, r: Refusal) -> Result<()> {
     let mut line = [0u8; 112];
     let k = lines::line_refused(r, &mut line);
-    io::write_all(STDOUT_FILENO, &line[..k]);
+    say(rt, &line[..k])
 }
 
-fn say_vertex(x: Name) {
+fn say_vertex<P: Print>(rt: &P, x: Name) -> Result<()> {
     let mut line = [0u8; 112];
     let k = lines::line_vertex(x, &mut line);
-    io::write_all(STDOUT_FILENO, &line[..k]);
+    say(rt, &line[..k])
 }
 
-fn say_check(n: u8, table: &[u8]) {
+fn say_check<P: Print>(rt: &P, n: u8, table: &[u8]) -> Result<()> {
     let c = table::check(n, table);
     match c {
-        Checked::Passed => say(b"passed\n"),
-        Checked::Refused(r) => say_refused(r),
+        Checked::Passed => say(rt, b"passed\n"),
+        Checked::Refused(r) => say_refused(rt, r),
     }
 }
 
-fn say_found(n: u8, table: &[u8], x: Name) {
+fn say_found<P: Print>(rt: &P, n: u8, table: &[u8], x: Name) -> Result<()> {
     let a = lookup::lookup_answer(n, table, x.round, x.author, x.mark);
     match a {
-        LookupAnswer::Found => say(b"found\n"),
-        LookupAnswer::Refused(r) => say_refused(r),
+        LookupAnswer::Found => say(rt, b"found\n"),
+        LookupAnswer::Refused(r) => say_refused(rt, r),
     }
 }
 
 // The length of the part that is handed back, and the name in it: a neighbour's bytes would show.
-fn say_part(part: &[u8]) {
-    say(b"part ");
-    io::print_decimal(STDOUT_FILENO, part.len() as u64);
-    say(b"\n");
+fn say_part<P: Print>(rt: &P, part: &[u8]) -> Result<()> {
+    say(rt, b"part ")?;
+    rt.print(part.len())?;
+    say(rt, b"\n")?;
     if 0 < part.len() {
-        say_vertex(record::name_of(part));
+        say_vertex(rt, record::name_of(part))?;
     }
+    Ok(())
 }
 
-fn say_lookup(input: &[u8]) {
+fn say_lookup<P: Print>(rt: &P, input: &[u8]) -> Result<()> {
     let x = Name {
         round: numbers::u32_at(input, 1),
         author: numbers::byte_at(input, 5),
@@ -118,82 +124,96 @@ fn say_lookup(input: &[u8]) {
     };
     let n = numbers::byte_at(input, 10);
     let table = rest(input, 11);
-    say_found(n, table, x);
-    say_part(lookup::lookup(n, table, x.round, x.author, x.mark));
+    say_found(rt, n, table, x)?;
+    say_part(rt, lookup::lookup(n, table, x.round, x.author, x.mark))
 }
 
 // A number and how often it stands there in a row; nothing if it doesn't.
-fn say_run(r: Run) {
+fn say_run<P: Print>(rt: &P, r: Run) -> Result<()> {
     if r.times == 0 {
-        return;
+        return Ok(());
     }
-    say(b" ");
-    io::print_decimal(STDOUT_FILENO, r.number as u64);
+    say(rt, b" ")?;
+    rt.print(r.number)?;
     if 1 < r.times {
-        say(b"*");
-        io::print_decimal(STDOUT_FILENO, r.times as u64);
+        say(rt, b"*")?;
+        rt.print(r.times)?;
     }
+    Ok(())
 }
 
 // The run with one more number, or a new one, and the old one is said. No buffer is so long that the count would wrap.
-fn said_up_to(r: Run, number: u32) -> Run {
+fn said_up_to<P: Print>(rt: &P, r: Run, number: u32) -> Result<Run> {
     if number == r.number {
-        return Run {
+        return Ok(Run {
             number,
-            times: std::num::wrapping_add_usize(r.times, 1),
-        };
+            times: r.times.wrapping_add(1),
+        });
     }
-    say_run(r);
-    Run { number, times: 1 }
+    say_run(rt, r)?;
+    Ok(Run { number, times: 1 })
 }
 
 // All cells or all order places, what was kept too.
-fn say_places(b: &[u32]) {
+fn say_places<P: Print>(rt: &P, b: &[u32]) -> Result<()> {
     let mut r = Run {
         number: 0,
         times: 0,
     };
     let mut i: usize = 0;
     while i < b.len() {
-        r = said_up_to(r, b[i]);
+        r = said_up_to(rt, r, b[i])?;
         i += 1;
     }
-    say_run(r);
-    say(b"\n");
+    say_run(rt, r)?;
+    say(rt, b"\n")
 }
 
 // The same of taken bytes.
-fn say_taken(b: &[u8]) {
+fn say_taken<P: Print>(rt: &P, b: &[u8]) -> Result<()> {
     let mut r = Run {
         number: 0,
         times: 0,
     };
     let mut i: usize = 0;
     while i < b.len() {
-        r = said_up_to(r, numbers::byte_at(b, i) as u32);
+        r = said_up_to(rt, r, numbers::byte_at(b, i) as u32)?;
         i += 1;
     }
-    say_run(r);
-    say(b"\n");
+    say_run(rt, r)?;
+    say(rt, b"\n")
 }
 
 // All that the program of document 01 would print.
-fn say_page(s: Settlement, table: &[u8], cells: &[u32], order: &[u32]) {
+fn say_page<P: Print>(
+    rt: &P,
+    s: Settlement,
+    table: &[u8],
+    cells: &[u32],
+    order: &[u32],
+) -> Result<()> {
     let mut out = buffer();
     let k = page::output_page(s, table, cells, order, &mut out);
-    say(&out[..k]);
+    say(rt, &out[..k])
 }
 
 // The page, and all that the lent buffers hold then.
-fn say_settled(n: u8, table: &[u8], cells: &mut [u32], order: &mut [u32], taken: &mut [u8]) {
+fn say_settled<P: Print>(
+    rt: &P,
+    n: u8,
+    table: &[u8],
+    cells: &mut [u32],
+    order: &mut [u32],
+    taken: &mut [u8],
+) -> Result<()> {
     let s = settlement::settle(n, table, cells, order, taken);
-    say_page(s, table, cells, order);
-    say(b"cells");
-    say_places(cells);
-    say(b"order");
-    say_places(order);
-    say(b"taken");
-    say_taken(taken);
+    say_page(rt, s, table, cells, order)?;
+    say(rt, b"cells")?;
+    say_places(rt, cells)?;
+    say(rt, b"order")?;
+    say_places(rt, order)?;
+    say(rt, b"taken")?;
+    say_taken(rt, taken)
 }
 
 // The lesser of two lengths.
@@ -207,31 +227,33 @@ fn at_most(k: usize, most: usize) -> usize
 }
 
 // The same with as much of the buffers as is lent.
-fn say_settled_in(
+fn say_settled_in<P: Print>(
+    rt: &P,
     n: u8,
     table: &[u8],
     lent: Lent,
     cells: &mut [u32],
     order: &mut [u32],
     taken: &mut [u8],
-) {
+) -> Result<()> {
     let c = at_most(lent.cells, cells.len());
     let o = at_most(lent.order, order.len());
     let t = at_most(lent.taken, taken.len());
     say_settled(
+        rt,
         n,
         table,
         &mut cells[0..c],
         &mut order[0..o],
         &mut taken[0..t],
-    );
+    )
 }
 
-fn say_settlement(n: u8, table: &[u8], lent: Lent) {
+fn say_settlement<P: Print>(rt: &P, n: u8, table: &[u8], lent: Lent) -> Result<()> {
     let mut cells = places();
     let mut order = places();
     let mut taken = taken_bytes();
-    say_settled_in(n, table, lent, &mut cells, &mut order, &mut taken);
+    say_settled_in(rt, n, table, lent, &mut cells, &mut order, &mut taken)
 }
 
 // How much is lent, from byte i on.
@@ -246,57 +268,71 @@ fn lent_at(input: &[u8], i: usize) -> Lent
 }
 
 // The check, then the settlement with each of the sets of lengths.
-fn say_settlements(input: &[u8]) {
+fn say_settlements<P: Print>(rt: &P, input: &[u8]) -> Result<()> {
     let count = numbers::byte_at(input, 1) as usize;
     let n = numbers::byte_at(input, 2 + 6 * count);
     let table = rest(input, 3 + 6 * count);
-    say_check(n, table);
+    say_check(rt, n, table)?;
     let mut i: usize = 0;
     while i < count {
-        say_settlement(n, table, lent_at(input, 2 + 6 * i));
+        say_settlement(rt, n, table, lent_at(input, 2 + 6 * i))?;
         i += 1;
     }
+    Ok(())
 }
 
-fn say_answer(input: &[u8]) {
+fn say_answer<P: Print>(rt: &P, input: &[u8]) -> Result<()> {
     let question = numbers::byte_at(input, 0);
     if question == LOOKUP {
-        say_lookup(input);
-        return;
+        return say_lookup(rt, input);
     }
     if question == SETTLE {
-        say_settlements(input);
-        return;
+        return say_settlements(rt, input);
     }
     let n = numbers::byte_at(input, 1);
     let table = rest(input, 2);
-    say_check(n, table);
+    say_check(rt, n, table)?;
     if question == TWICE {
-        say_check(n, shortened(table));
+        say_check(rt, n, shortened(table))?;
     }
+    Ok(())
 }
 
-fn one(i: usize) {
-    let mut path = io::buffer();
-    let k = os::arg(i, &mut path);
-    say(&path[..k]);
-    say(b"\n");
-    let fd = os::open_read(&path[..k]);
-    if fd < 0 {
-        os::fail(&path[..k]);
-        return;
+// Reads until the buffer is full or the file ends.
+fn read_full<R: Read>(from: &mut R, buf: &mut [u8]) -> Result<usize>
+    ensures { IfOk result (λ k. IsPrefixLen k buf.new) }
+{
+    let mut done: usize = 0;
+    while done < buf.len() {
+        let more = from.read(&mut buf[done..])?;
+        if more == 0 {
+            return Ok(done);
+        }
+        done += more;
     }
+    Ok(done)
+}
+
+// A path that is no text names no file of data/.
+fn one<R: Files + Print>(rt: &R, path: &[u8]) -> Result<()> {
+    say(rt, path)?;
+    say(rt, b"\n")?;
+    let mut file = match str::from_utf8(path) {
+        Ok(name) => File::open(rt, name)?,
+        Err(_) => return Ok(()),
+    };
     let mut input = buffer();
-    let n = io::read_full(fd, &mut input);
-    libc::close(fd);
-    say_answer(&input[..n]);
+    let n = read_full(&mut file, &mut input)?;
+    say_answer(rt, &input[..n])
 }
 
-fn main() {
-    let n = os::arg_count();
-    let mut i: usize = 1;
-    while i < n {
-        one(i);
-        i += 1;
+fn main(rt: HostRuntime) -> Result<()> {
+    let mut path = io::buffer();
+    for i in 1..usize::MAX {
+        match rt.arg(i, &mut path) {
+            Ok(k) => one(&rt, &path[..k])?,
+            Err(_) => break,
+        }
     }
+    Ok(())
 }

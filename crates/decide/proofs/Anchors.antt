@@ -129,8 +129,8 @@ module _ (C : Setting) (G : Geometry C.slots) {n : ℕ} {vs : List Vertex} (A : 
 -- ---- the slot in hand by the indirect rule, where the search stops at k
 
 module _ {C : Setting} {E : Edition} {n : ℕ} {t : List ℕ} {s round leads-it : ℕ} {cells : List ℕ} {a p : ℕ} {work : List ℕ}
-    (I : InHand C E n t s round leads-it cells a p work) (G : Geometry C.slots) (k start up_to_lem : ℕ) (is-start : start ≡ C.slots.start s)
-    (is-top : up_to_lem ≡ C.slots.up_to (highest (vertices E t))) (stops : k ≡ 1 + stop_at cells start up_to_lem) where
+    (I : InHand C E n t s round leads-it cells a p work) (G : Geometry C.slots) (k start upper : ℕ) (is-start : start ≡ C.slots.start s)
+    (is-top : upper ≡ C.slots.up_to (highest (vertices E t))) (stops : k ≡ 1 + stop_at cells start upper) where
   abbrev passed : Accepted n (vertices E t)
   passed = I.ready.sound.accepted
 
@@ -144,7 +144,7 @@ module _ {C : Setting} {E : Edition} {n : ℕ} {t : List ℕ} {s round leads-it 
   unfolding indirectly indirect
   left_open e = record { same_length = refl; in_cell = rw e; walked = I.walked }
 
-  pub told_past : up_to_lem < k → InCell C.step (vertices E t) (indirectly C n (vertices E t) s) work 0 a p work
+  pub told_past : upper < k → InCell C.step (vertices E t) (indirectly C n (vertices E t) s) work 0 a p work
   told_past h = left_open (anchor_past C G passed s cells I.above k at_top (omega (arith, h, is-top)))
 
   -- v is what the cell holds there
@@ -152,7 +152,7 @@ module _ {C : Setting} {E : Edition} {n : ℕ} {t : List ℕ} {s round leads-it 
     pub told_open : v ≡ 0 → InCell C.step (vertices E t) (indirectly C n (vertices E t) s) work 0 a p work
     told_open z = left_open (anchor_open C G passed s cells I.above k at_top (sym read ∙ z))
 
-    module _ (h : k ≤ up_to_lem) (f : v ≢ 0) where
+    module _ (h : k ≤ upper) (f : v ≢ 0) where
       anchor_cell : (2 ≤ v) × Anchor C G passed s cells I.above (v - 2)
       anchor_cell = rw read (anchor_found C G passed s cells I.above k at_top (omega (arith, h, is-top)) (λ z. f (read ∙ z)))
 

@@ -137,7 +137,7 @@ pub fn line_refused(r: Refusal, out: &mut [u8]) -> usize
     ended(with_number(l, position), out)
 }
 
-// `S records highest-round first_undecided_lem written equivocators`
+// `S records highest-round first-undecided written equivocators`
 pub fn line_settled(c: Counts, out: &mut [u8]) -> usize
     ensures { Fills (line_s c) out.old out.new result }
 {

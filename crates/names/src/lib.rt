@@ -10,6 +10,7 @@ use rules::Name;
 // ---- names
 
 // x stands below y, by round, then author, then mark.
+#[tactic(auto, using(crate::proofs::Names::by_round, crate::proofs::Names::by_author, crate::proofs::Names::by_mark))]
 pub fn below(x: Name, y: Name) -> bool
     ensures { result ≡ isBelow x y }
 {
@@ -22,6 +23,7 @@ pub fn below(x: Name, y: Name) -> bool
     x.mark < y.mark
 }
 
+#[tactic(auto, using(crate::proofs::Names::same_round, crate::proofs::Names::same_author, crate::proofs::Names::same_mark))]
 pub fn same(x: Name, y: Name) -> bool
     ensures { result ≡ same_name x y }
 {

@@ -45,6 +45,7 @@ pub fn byte_at(b: &[u8], i: usize) -> u8
 }
 
 // The two bytes from byte i on as a number. Only near the end are they read one by one.
+#[tactic(auto, using(crate::proofs::Numbers::number_two, crate::proofs::Numbers::two_rest))]
 pub fn u16_at(b: &[u8], i: usize) -> u16
     ensures { result ≡ number 2 b.now i }
 {
@@ -56,6 +57,7 @@ pub fn u16_at(b: &[u8], i: usize) -> u16
 }
 
 // The four bytes from byte i on as a number, in the same way.
+#[tactic(auto, using(crate::proofs::Numbers::number_four, crate::proofs::Numbers::four_rest))]
 pub fn u32_at(b: &[u8], i: usize) -> u32
     ensures { result ≡ number 4 b.now i }
 {

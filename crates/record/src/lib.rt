@@ -64,6 +64,7 @@ pub fn refs_of(b: &[u8]) -> [u32; 31]
 }
 
 // The record, decoded. Nothing is checked here: any bytes make a vertex.
+#[tactic(auto, unfolding(rules::specs::Record::decode))]
 pub fn decode(b: &[u8]) -> Vertex
     ensures { result ≡ decoded first b.now }
 {
@@ -80,6 +81,7 @@ pub fn decode(b: &[u8]) -> Vertex
 }
 
 // The name alone, for a search that compares names.
+#[tactic(auto, unfolding(rules::specs::Record::decode))]
 pub fn name_of(b: &[u8]) -> Name
     ensures { result ≡ name_of (decoded first b.now) }
 {
@@ -91,6 +93,7 @@ pub fn name_of(b: &[u8]) -> Name
 }
 
 // Entry i alone; none stands from 31 on.
+#[tactic(auto, using(crate::proofs::Laws::entry_within, crate::proofs::Laws::entry_past))]
 pub fn entry_of(b: &[u8], i: usize) -> u32
     ensures { result ≡ entry (decoded first b.now) i }
 {

@@ -200,4 +200,4 @@ pub counts_are : (n : ℕ) (vs : List Vertex) (ds : List (Decision ℕ)) (w : Li
     → c.undecided ≡ first_undecided 1 ds
     → c.written ≡ length w → c.equivocators ≡ equivocators n vs → c ≡ counts_of n vs ds w
 unfolding counts_of
-counts_are n vs ds w c p q r s u = λ i. record { records = p i; highest = q i; undecided = r i; written = s i; equivocators = u i }
+counts_are n _ _ w c p q r s u = λ i. record { records = p i; highest = q i; undecided = r i; written = s i; equivocators = u i }

@@ -1,7 +1,7 @@
 -- The laws of where a search over decision cells stops: all cells before are 1, and it is the first that is not.
 -- Assumes nothing.
-use Prim.Native.Nat.{ℕ, ◌+◌, ◌≤◌, ◌<◌}
-use mathlib.Core.Path.{◌≡◌, sym}
+use Prim.Native.Nat.{ℕ, ◌+◌, ◌-◌, ◌≤◌, ◌<◌}
+use mathlib.Core.Path.{◌≡◌, sym, ap}
 use mathlib.Core.Logic.{◌≢◌}
 use mathlib.Core.Bool.{false, not}
 use mathlib.Core.List.{List}
@@ -39,3 +39,14 @@ module _ (cells : List ℕ) (from : ℕ) where
   pub stop_low : (top : ℕ) → stop_at cells from top < top → from ≤ stop_at cells from top
   unfolding stop_at
   stop_low top h = leb-true _ _ (and_left _ _ ((first_is _ top).hit h))
+
+-- the same at a round t, whose cell is the one before
+pub stop_found : (cells : List ℕ) (from t top : ℕ) → ((u : ℕ) → from ≤ u → u + 1 < t → get_or cells u 0 ≡ 1) → from < t → t ≤ top
+    → get_or cells (t - 1) 0 ≢ 1 → t ≡ 1 + stop_at cells from top
+stop_found cells from t top skips low h f =
+    let slot : t - 1 ≡ stop_at cells from top = stop_here cells from (t - 1) (λ u l k. skips u l (omega arith)) top (omega arith) (omega arith) f in
+    omega arith
+
+pub stop_past : (cells : List ℕ) (from t top : ℕ) → ((u : ℕ) → from ≤ u → u + 1 < t → get_or cells u 0 ≡ 1) → top < t
+    → 1 + top ≡ 1 + stop_at cells from top
+stop_past cells from t top skips h = ap (λ k. 1 + k) (stop_none cells from top (λ u l k. skips u l (omega arith)))

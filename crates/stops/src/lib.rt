@@ -16,6 +16,7 @@ pub fn cell_at(cells: &[u32], slot: usize) -> u32
 
 // The round at which the indirect search for a round's anchor stops: from three rounds up, the first that isn't skipped, or the one past
 // the highest.
+#[tactic(auto, using(crate::proofs::Stops::stop_found, crate::proofs::Stops::stop_past))]
 pub fn stop_at(cells: &[u32], round: u32, highest: u32) -> usize
     ensures { result ≡ 1 + stop_at cells.now (round + 2) highest }
 {

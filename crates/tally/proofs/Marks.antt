@@ -1,7 +1,7 @@
 -- The mark that enough of the references back: found, none, and what that means.
 -- Assumes nothing.
-use Prim.Native.Nat.{ℕ, ◌-◌, ◌≤◌, ◌<◌}
-use mathlib.Core.Path.{◌≡◌, sym, ◌∙◌, subst}
+use Prim.Native.Nat.{ℕ, ◌+◌, ◌≤◌, ◌<◌}
+use mathlib.Core.Path.{◌≡◌, refl, sym, ◌∙◌, subst}
 use mathlib.Core.Logic.{◌≢◌}
 use mathlib.Core.Bool.{Bool, true, false, not}
 use mathlib.Core.List.{List}
@@ -9,11 +9,31 @@ use native.Mathlib.Omega.{arith}
 use native.Mathlib.Nat.{le_refl}
 use lib.Dec.{leb, ltb, eqb}
 use lib.ListN.{get_or}
-use borrow.Author.Tests.{eqb-false, leb-true, ltb-true, ltb-false, ne_eqb, le-leb, lt-leb, lt-ltb}
-use Rattle.folds.specs.Folds.{◌and◌, first_to}
+use borrow.Author.Tests.{eq-eqb, eqb-false, leb-true, ltb-true, ltb-false, ne_eqb, le-leb, lt-leb, lt-ltb}
+use Rattle.folds.specs.Folds.{◌and◌, count_to, first_to}
 use Rattle.folds.proofs.Tests.{by_test, not_both, failed, and_left, and_right, and_true, not_true, is_not}
-use Rattle.folds.proofs.Laws.{First, first_is, first_by}
+use Rattle.folds.proofs.Laws.{First, first_is, first_by, count_start, count_yes, count_no}
 use Rattle.tally.specs.Marks.{count_mark, enough_of}
+
+-- how many of the first i are the mark
+unfoldable pub counted : List ℕ → ℕ → ℕ → ℕ
+counted marks mark i = count_to (λ j. eqb (get_or marks j 0) mark) i
+
+pub counted_none : (marks : List ℕ) (mark : ℕ) → counted marks mark 0 ≡ 0
+unfolding counted
+counted_none marks mark = count_start _
+
+pub counted_hit : (marks : List ℕ) (mark i : ℕ) → get_or marks i 0 ≡ mark → counted marks mark (i + 1) ≡ counted marks mark i + 1
+unfolding counted
+counted_hit marks mark i e = sym (count_yes _ i _ (eq-eqb _ _ e) refl)
+
+pub counted_miss : (marks : List ℕ) (mark i : ℕ) → get_or marks i 0 ≢ mark → counted marks mark (i + 1) ≡ counted marks mark i
+unfolding counted
+counted_miss marks mark i d = sym (count_no _ i _ (ne_eqb _ _ d) refl)
+
+pub counted_all : (marks : List ℕ) (mark : ℕ) → count_mark marks mark ≡ counted marks mark 31
+unfolding counted count_mark
+counted_all marks mark = refl
 
 -- the mark at i is one, and at least q are that mark
 abbrev pub enough_at : List ℕ → ℕ → ℕ → Bool

@@ -13,6 +13,7 @@ pub fn quorum_of(n: u8) -> usize
 }
 
 // How many of the references back the mark.
+#[tactic(auto, using(crate::proofs::Marks::counted_none, crate::proofs::Marks::counted_hit, crate::proofs::Marks::counted_miss, crate::proofs::Marks::counted_all))]
 fn count_mark(marks: [u32; 31], mark: u32) -> usize
     ensures { result ≡ count_mark marks mark }
 {

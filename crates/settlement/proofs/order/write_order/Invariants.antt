@@ -1,0 +1,13 @@
+-- `settlement::order::write_order`: the slots before s are gone through, and what is written then is in the places, the bytes and the count.
+-- The measure is the slots that are left.
+use Rattle.std.proofs.Common.{◌-◌, ◌≤◌}
+use Rattle.rules.specs.Decide.{box_setting}
+use Rattle.decide.specs.Ready.{vertices_of}
+use Rattle.settlement.proofs.Ordered.{Upto}
+use Rattle.settlement.proofs.order.write_order.Given as goal
+
+abbrev pub invariant-loop-s : goal.invariant-loop-s
+invariant-loop-s l = (l.s ≤ l.top) × Upto (box_setting l.n) l.n (vertices_of l.table) l.fn.order l.fn.taken l.s l.count l.order l.taken
+
+abbrev pub decreases-loop-s : goal.decreases-loop-s
+decreases-loop-s l = l.top - l.s

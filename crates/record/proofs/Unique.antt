@@ -17,7 +17,7 @@ use Rattle.record.proofs.name_of.Reads as name_of
 use Rattle.record.proofs.entry_of.Kinds as entry-of-kinds
 use Rattle.record.proofs.entry_of.Reads as entry_of
 use Rattle.record.proofs.name_at.Kinds as name-at-kinds
-use Rattle.record.proofs.name_at.Reads as name_at_lem
+use Rattle.record.proofs.name_at.Reads as name_at
 use Rattle.record.proofs.entry_at.Kinds as entry-at-kinds
 use Rattle.record.proofs.entry_at.Reads as entry_at
 
@@ -39,7 +39,7 @@ name_of_unique κs a x y e f p q = p ∙ sym q
 pub entry_of_unique : Only 1 entry-of-kinds.ps entry-of-kinds.r (λ κs x e y f. x ≡ y) entry_of.Post
 entry_of_unique κs a x y e f p q = p ∙ sym q
 
-pub name_at_unique : Only 1 name-at-kinds.ps name-at-kinds.r (λ κs x e y f. x ≡ y) name_at_lem.Post
+pub name_at_unique : Only 1 name-at-kinds.ps name-at-kinds.r (λ κs x e y f. x ≡ y) name_at.Post
 name_at_unique κs a x y e f p q = p ∙ sym q
 
 pub entry_at_unique : Only 1 entry-at-kinds.ps entry-at-kinds.r (λ κs x e y f. x ≡ y) entry_at.Post

@@ -299,7 +299,7 @@ pub order_has : {n : ℕ} {vs : List Vertex} → Accepted n vs → OrderHas n vs
 order_has {n} {vs} A = record {
   written = all;
   no_other = λ o w. written_one _ _ _ o _ w all;
-  first_undecided_lem = first_undecided_is 1 (decisions (box_setting n) n vs);
+  the_first_undecided = first_undecided_is 1 (decisions (box_setting n) n vs);
   histories = history_is A;
   highest_most = highest_most A;
 }

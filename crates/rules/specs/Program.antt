@@ -44,7 +44,7 @@ line w (x ∷ xs) = w ++ 32 ∷ line x xs
 unfoldable pub line_x : (number : ℕ) (values : List ℕ) → List ℕ
 line_x k values = line (bytes_of "X") (decimal k ∷ map decimal values)
 
--- `S records highest-round first_undecided_lem written equivocators`
+-- `S records highest-round first-undecided written equivocators`
 unfoldable pub line_s : Counts → List ℕ
 line_s c =
     line (bytes_of "S")

@@ -58,7 +58,7 @@ pub record OrderHas (n : ℕ) (vs : List Vertex) : Type 0 where
   -- there is no other with nothing missing, nothing twice and that order
   pub no_other : (o : List ℕ) → Written references vs (decisions (box_setting n) n vs) o → o ≡ order (box_setting n) n vs
   -- the first undecided round that is told: round s + 1 comes before it exactly when that round and all before it are decided
-  pub first_undecided_lem : (s : ℕ) → (1 + s < first_undecided 1 (decisions (box_setting n) n vs)) ↔ DecidedUpTo (decisions (box_setting n) n vs) s
+  pub the_first_undecided : (s : ℕ) → (1 + s < first_undecided 1 (decisions (box_setting n) n vs)) ↔ DecidedUpTo (decisions (box_setting n) n vs) s
   -- what is computed as the history of the vertex at a is that vertex and everything reached from it by references
   pub histories : (a q : ℕ) → a < length vs → q ≤ a
       → (get_or (history references vs a) q false ≡ true) ↔ Reaches (StepIn references vs) (name_of (at vs a)) (name_of (at vs q))

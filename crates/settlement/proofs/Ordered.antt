@@ -1,7 +1,7 @@
 -- The written order, slot by slot: what is written when the slots before one are gone through, and that the bytes, the places and the count
 -- are those of the order of the rules in the end.
 -- Assumes nothing.
-use Prim.Native.Nat.{ℕ, zero, suc, ◌+◌, ◌-◌, ◌≤◌, ◌<◌}
+use Prim.Native.Nat.{ℕ, zero, suc, ◌+◌, ◌-◌, ◌≤◌, ◌<◌, zero-le}
 use mathlib.Core.Path.{◌≡◌, refl, sym, ap, ap₂, ◌∙◌}
 use mathlib.Core.Logic.{⊎_elim, ◌≢◌}
 use mathlib.Core.Bool.{Bool, true, false, not}
@@ -18,7 +18,7 @@ use Rattle.folds.proofs.Tests.{by_test, not_both, failed, and_left, or_cases, or
 use Rattle.folds.proofs.Laws.{count_low, count_cut, count_same}
 use Rattle.folds.proofs.Lists.{filter_length, filter_sound, filter_complete, member_sound, member_complete, length_tabulate}
 use Rattle.rules.specs.declared.Vertex.{Vertex}
-use Rattle.rules.specs.Record.{at, name_of}
+use Rattle.rules.specs.Record.{Edition, vertices, at, name_of}
 use Rattle.rules.specs.Decision.{Decision, undecided, skipped, committed, cell}
 use Rattle.rules.specs.History.{StepRule, history}
 use Rattle.rules.specs.Decide.{Setting, highest, decisions, decision_at}
@@ -27,7 +27,7 @@ use Rattle.rules.specs.Settlement.{written_over, taken_bytes}
 use Rattle.rules.proofs.Accepted.{Accepted}
 use Rattle.rules.proofs.Decide.{decisions_length, leads}
 use Rattle.rules.proofs.Slots.{Geometry}
-use Rattle.settlement.specs.Write.{places_over, written, WrittenSoFar, fresh, Led, Ordered}
+use Rattle.settlement.specs.Write.{Decided, places_over, written, WrittenSoFar, fresh, Led, Ordered}
 use Rattle.decide.proofs.Marked.{Walks, history_size, history_past, history_low, history_step}
 use Rattle.folds.proofs.Over.{over_at, over_length, over_same, over_over, over_none}
 use Rattle.settlement.proofs.Places.{places_over_lem}
@@ -309,3 +309,9 @@ module _ (C : Setting) where
   pub cell_leader : Geometry C.slots → {n : ℕ} {vs : List Vertex} → Accepted n vs → (s c : ℕ) → c ≡ cell (decision_at (decisions C n vs) s)
       → c ≢ 0 → c ≢ 1 → (decision_at (decisions C n vs) s ≡ committed (c - 2)) × (c - 2 < length vs)
   cell_leader G A s c e z o = let d = cell_committed _ c e z o in (d, (leads C G.later A s (c - 2) d).0)
+
+-- where a cell tells that its slot is undecided, the order ends
+pub upto_open : {C : Setting} {E : Edition} {n : ℕ} {t cells o m : List ℕ} {s count : ℕ} {o' m' : List ℕ} → Decided C E n t cells o m
+    → Upto C n (vertices E t) o m s count o' m' → s < C.slots.up_to (highest (vertices E t)) → get_or cells s 0 ≡ 0
+    → Ordered C n (vertices E t) o m count o' m'
+upto_open {C} {s = s} D U l e = upto_stop D.cleared U (slot_low C _ _ l) (cell_undecided _ (sym (D.in_cells.held s zero-le l) ∙ e))

@@ -1,6 +1,6 @@
 -- `lines::fill` meets its contract: a line that does not fit is not written; a turn copies one byte more, and the whole line copied fills the buffer.
 -- Assumes nothing.
-use Rattle.std.proofs.Common.{◌≡◌, arith, length-set}
+use Rattle.std.proofs.Common.{◌≡◌, arith}
 use Rattle.lines.specs.Text.{text_of}
 use Rattle.lines.proofs.Text.{text_length, text_short, copy_next, fills_not, fills_so}
 use Rattle.lines.proofs.fill.Goals as goal
@@ -15,7 +15,6 @@ loop-i-preserved c =
     let a = c.args in
     record {
       within = omega arith;
-      same_length = simp length-set v.same_length;
       copied = rw v.copied (copy_next a.l.bytes a.out.now i (rw c.requires.whole (omega arith)) (omega arith));
     }
 

@@ -1,12 +1,11 @@
 -- `lines::fill`: the first i bytes of the line, then the buffer as it was. The measure is what is left of the line.
 -- Assumes nothing.
-use Rattle.std.proofs.Common.{length, take, drop, ◌++◌, ◌-◌, ◌≡◌, ◌≤◌}
+use Rattle.std.proofs.Common.{take, drop, ◌++◌, ◌-◌, ◌≡◌, ◌≤◌}
 use Rattle.lines.proofs.fill.Given as goal
 
 abbrev pub invariant-loop-i : goal.invariant-loop-i
 invariant-loop-i l = record {
   within : l.i ≤ l.n;
-  same_length : length l.out ≡ length l.fn.out;
   copied : l.out ≡ take l.i l.bytes ++ drop l.i l.fn.out;
 }
 

@@ -11,7 +11,6 @@ loop-i-preserved c =
     let v = c.loop-i.invariant in
     record {
       within = omega arith;
-      room = v.room;
       pasted = rw (v.pasted, add-one c.loop-i.i) (paste-suc a.l.bytes a.l.len a.w.now c.loop-i.i 0 (omega arith) (omega arith));
     }
 

@@ -1,13 +1,12 @@
 -- `lines::with_bytes`: the array is the line's, with the first i bytes of w pasted at its end. The measure is what is left of w.
 -- Assumes nothing.
-use Rattle.std.proofs.Common.{length, ◌+◌, ◌-◌, ◌≡◌, ◌≤◌}
+use Rattle.std.proofs.Common.{length, ◌-◌, ◌≡◌, ◌≤◌}
 use lib.Seq.{paste}
 use Rattle.lines.proofs.with_bytes.Given as goal
 
 abbrev pub invariant-loop-i : goal.invariant-loop-i
 invariant-loop-i l = record {
   within : l.i ≤ length l.w;
-  room : l.at + length l.w ≤ length l.fn.l.bytes;
   pasted : l.bytes ≡ paste l.fn.l.bytes l.at l.w l.i;
 }
 

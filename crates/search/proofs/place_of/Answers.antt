@@ -1,5 +1,5 @@
 -- `search::place_of` meets its contract: each turn leaves what answers as before, and nothing left answers with the place.
-use Rattle.std.proofs.Common.{◌≡◌, ℕ, ◌+◌, ◌-◌, ◌/◌, Bool, refl, sym, ap, ◌∙◌, arith}
+use Rattle.std.proofs.Common.{◌≡◌, ℕ, ◌+◌, ◌-◌, ◌/◌, refl, sym, ap, ◌∙◌, arith}
 use Rattle.rules.specs.Record.{below}
 use Rattle.search.specs.Search.{name_at}
 use Rattle.search.proofs.Names.{name_at_lem}
@@ -15,9 +15,9 @@ loop-lo-preserved c =
     let up = raised_is c.below-held.result c.loop-lo.lo m _ c.raised-lo.ensures (omega arith) in
     let h = halved c.below-held.result c.loop-lo.lo c.loop-lo.hi _ _ _ refl (omega arith) up c.lowered-hi.ensures in
     let e : c.below-held.result ≡ below (name_at c.args.table.now m) c.args.x =
-        c.below-held.ensures ∙ ap (λ y. below y c.args.x) (c.name_at.ensures ∙ name_at_lem c.args.table.now _ (omega arith)) in
+    c.below-held.ensures ∙ ap (λ y. below y c.args.x) (c.name_at.ensures ∙ name_at_lem c.args.table.now _ (omega arith)) in
     let turn =
-        halves_turn c.below-held.result c.loop-lo.lo c.loop-lo.hi _ _ _ refl (omega arith) up c.lowered-hi.ensures (λ p. below (name_at c.args.table.now p) c.args.x) e in
+    halves_turn c.below-held.result c.loop-lo.lo c.loop-lo.hi _ _ _ refl (omega arith) up c.lowered-hi.ensures (λ p. below (name_at c.args.table.now p) c.args.x) e in
     record { ordered = h.ordered; within = omega (arith, h.within); left = c.loop-lo.invariant.left ∙ turn }
 
 pub returns : goal.returns

@@ -10,6 +10,7 @@ ghost use Rattle.rules.specs.Settlement.{lent, lent_check};
 use rules::{Checked, Refusal};
 
 // The table's refusal, or 10: a decision cell for each round, an order place and a taken byte for each record.
+#[tactic(auto, using(crate::proofs::Lent::short_cells, crate::proofs::Lent::short_order, crate::proofs::Lent::short_taken))]
 pub fn lent_check(n: u8, table: &[u8], cells: &[u32], order: &[u32], taken: &[u8]) -> Checked
     ensures { check_tells result ≡ lent_check (box_setting n) first n table.now
         (lent cells.now order.now taken.now) }

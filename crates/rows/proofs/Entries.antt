@@ -1,18 +1,37 @@
 -- Check 7 by counts: how many of the first k entries are references.
 -- Assumes nothing.
-use Prim.Native.Nat.{ℕ, ◌≤◌, ◌<◌, min}
-use mathlib.Core.Path.{◌≡◌, refl, ap, ◌∙◌}
-use mathlib.Core.Bool.{true, false}
+use Prim.Native.Nat.{ℕ, ◌+◌, ◌≤◌, ◌<◌, min}
+use mathlib.Core.Path.{◌≡◌, refl, sym, ap, ◌∙◌}
+use mathlib.Core.Bool.{true, false, not}
+use mathlib.Core.Logic.{◌≢◌}
+use mathlib.Core.List.{List}
+use lib.ListN.{get_or}
 use native.Mathlib.Omega.{arith}
 use lib.Dec.{leb, ltb, eqb}
-use borrow.Author.Tests.{eqb-true, eq-eqb, lt-ltb, le-ltb, leb-true, le-leb}
+use borrow.Author.Tests.{eqb-true, eq-eqb, ne_eqb, lt-ltb, le-ltb, leb-true, le-leb}
 use Rattle.folds.specs.Folds.{◌and◌, ◌or◌, any_to, count_to}
-use Rattle.folds.proofs.Tests.{by_test, both_ways, or_left, or_right}
-use Rattle.folds.proofs.Laws.{any_same, any_count, any_from}
+use Rattle.folds.proofs.Tests.{by_test, both_ways, or_left, or_right, is_not, is_not_true}
+use Rattle.folds.proofs.Laws.{any_same, any_count, any_from, count_start, count_yes, count_no}
 use Rattle.rules.specs.declared.Vertex.{Vertex}
 use Rattle.rules.specs.Authors.{quorum}
 use Rattle.rules.specs.Record.{refers}
 use Rattle.rules.specs.Check.{entries_wrong}
+
+-- how many of the first i entries are references
+unfoldable pub filled_to : List ℕ → ℕ → ℕ
+filled_to refs i = count_to (λ j. not (eqb (get_or refs j 0) 0)) i
+
+pub filled_none : (refs : List ℕ) → filled_to refs 0 ≡ 0
+unfolding filled_to
+filled_none refs = count_start _
+
+pub filled_more : (refs : List ℕ) (i : ℕ) → get_or refs i 0 ≢ 0 → filled_to refs (i + 1) ≡ filled_to refs i + 1
+unfolding filled_to
+filled_more refs i d = sym (count_yes _ i _ (is_not (ne_eqb _ _ d)) refl)
+
+pub filled_same : (refs : List ℕ) (i : ℕ) → get_or refs i 0 ≡ 0 → filled_to refs (i + 1) ≡ filled_to refs i
+unfolding filled_to
+filled_same refs i e = sym (count_no _ i _ (is_not_true (eq-eqb _ _ e)) refl)
 
 -- all: the references of the vertex. own: those of them below n.
 module _ (n : ℕ) (v : Vertex) (all own : ℕ) (is_all : all ≡ count_to (refers v) 31) (is-own : own ≡ count_to (refers v) (min n 31)) where

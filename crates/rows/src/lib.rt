@@ -13,6 +13,7 @@ use tally::{quorum_of, smaller};
 const ENTRIES: usize = 31;
 
 // Rows 5, 18, 19 and 20 of the record at p, in document 02's order. Staff replace the card for the first and call the author's owner for the others.
+#[tactic(auto, using(crate::proofs::Fields::told_padding, crate::proofs::Fields::told_round, crate::proofs::Fields::told_mark, crate::proofs::Fields::told_author, crate::proofs::Fields::told_none))]
 pub fn check_fields(n: u8, p: usize, v: Vertex) -> Checked
     ensures { check_tells result ≡ check_fields n p v }
 {
@@ -32,6 +33,7 @@ pub fn check_fields(n: u8, p: usize, v: Vertex) -> Checked
 }
 
 // How many of the first k entries are references.
+#[tactic(auto, using(crate::proofs::Entries::filled_none, crate::proofs::Entries::filled_more, crate::proofs::Entries::filled_same))]
 fn filled(refs: [u32; 31], k: usize) -> usize
     requires { k ≤ 31 }
     ensures { result ≡ count_to (λ i. not (eqb (get_or refs i 0) 0)) k }
@@ -48,6 +50,7 @@ fn filled(refs: [u32; 31], k: usize) -> usize
 }
 
 // Row 7.
+#[tactic(auto, using(crate::proofs::Entries::entries_first))]
 pub fn entries_wrong(n: u8, v: Vertex) -> bool
     ensures { result ≡ entries_wrong n v }
 {

@@ -11,6 +11,7 @@ use tally::smaller;
 const COVERED: usize = 136;
 
 // The sum that the record should carry: the 68 words of the covered bytes, read where they are lent. Every carry out of the top is dropped.
+#[tactic(auto, using(crate::proofs::Covered::covered_length, crate::proofs::Covered::covered_word, crate::proofs::Covered::words_none, crate::proofs::Covered::words_next, crate::proofs::Covered::words_all))]
 pub fn sum_of(b: &[u8]) -> u16
     ensures { result ≡ sum_of first b.now }
 {

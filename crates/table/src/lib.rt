@@ -19,6 +19,7 @@ use rules::{Checked, Name, Refusal, Vertex};
 const MOST: usize = 4096;
 
 // The refusal is the answer when its test holds.
+#[tactic(auto, using(rules::proofs::Refusals::when_yes, rules::proofs::Refusals::when_no))]
 fn row(why: Refusal, wrong: bool) -> Checked
     ensures { check_tells result ≡ check_tells (Checked.Refused why) when wrong }
 {
@@ -29,6 +30,7 @@ fn row(why: Refusal, wrong: bool) -> Checked
 }
 
 // The first failing check answers.
+#[tactic(auto, using(rules::proofs::Refusals::then_passed, rules::proofs::Refusals::then_refused))]
 fn first_of(c: Checked, d: Checked) -> Checked
     ensures { check_tells result ≡ check_tells c then check_tells d }
 {
@@ -52,6 +54,7 @@ fn is_count(n: u8) -> bool
     n % 3 == 1
 }
 
+#[tactic(auto, using(rules::proofs::Refusals::when_yes, rules::proofs::Refusals::when_no))]
 fn check_count(n: u8) -> Checked
     ensures { check_tells result ≡ refusal 1 0 when not (is_count n) }
 {

@@ -1,7 +1,7 @@
 /*
  * The calls of the record box's middle layer for C and C++.
  *
- * Link with the static library that `rt staticlib exports` writes (target/staticlib/libexports.a, x86-64). Each call is
+ * Link with the static library that `.ci/built exports_c` writes (target/staticlib/libexports.a, x86-64). Each call is
  * proved to give what the library's call of that name gives, for every author count, every length and every byte.
  *
  * Two preconditions, beside what C asks of any pointer with a length (that many elements stand behind it, they are the

@@ -1,5 +1,7 @@
 // What C and Rust call: thin functions over the calls of the library, each equal to its call on all inputs. C has no enum whose
-// cases carry values, so an answer goes out as document 01's number and position. include/record_box.h has the declarations.
+// cases carry values, so an answer goes out as document 01's number and position. This is a library, for Rattle's crates and for what
+// `base` says of the exports. The symbols that C and Rust link are of `exports_c`, the static library over it: four functions with the
+// names and the promises of those at the end of this file, each only calling the one here. include/record_box.h has the declarations.
 #![tactic(auto)]
 
 ghost use Rattle.std.specs.Prelude.{◌≡◌};
@@ -108,11 +110,10 @@ fn settled_as(o: Outcome) -> SettledNumbers
     }
 }
 
-// ---- the exports
+// ---- the exports, under the names that `exports_c` gives to C
 
 // `table::check`. Number 0: the table passes.
-#[unsafe(no_mangle)]
-pub extern "C" fn record_box_check(n: u8, table: &[u8]) -> Answer
+pub fn record_box_check(n: u8, table: &[u8]) -> Answer
     ensures { result ≡ answer_as (checked first n table.now) }
 {
     checked_as(table::check(n, table))
@@ -120,8 +121,8 @@ pub extern "C" fn record_box_check(n: u8, table: &[u8]) -> Answer
 
 // `lookup::lookup`. An exported function cannot return a reference, so it gives where in the lent table the part that
 // `lookup::lookup` hands back begins, and how long it is: the record's 138 bytes, or the first zero bytes on any refusal.
-#[unsafe(no_mangle)]
-pub extern "C" fn record_box_lookup(n: u8, table: &[u8], round: u32, author: u8, mark: u32) -> Part
+#[tactic(auto, using(lookup::proofs::Lookups::within, lookup::proofs::Lookups::begin_found, lookup::proofs::Lookups::length_found, lookup::proofs::Lookups::begin_refused, lookup::proofs::Lookups::length_refused))]
+pub fn record_box_lookup(n: u8, table: &[u8], round: u32, author: u8, mark: u32) -> Part
     ensures { result ≡ part_as first n table.now (named round author mark) }
 {
     let s = lookup::stands_at(
@@ -146,22 +147,14 @@ pub extern "C" fn record_box_lookup(n: u8, table: &[u8], round: u32, author: u8,
 }
 
 // `lookup::lookup_answer`. Number 0: the name is found.
-#[unsafe(no_mangle)]
-pub extern "C" fn record_box_lookup_answer(
-    n: u8,
-    table: &[u8],
-    round: u32,
-    author: u8,
-    mark: u32,
-) -> Answer
+pub fn record_box_lookup_answer(n: u8, table: &[u8], round: u32, author: u8, mark: u32) -> Answer
     ensures { result ≡ answer_as (lookup_check first n table.now (named round author mark)) }
 {
     lookup_as(lookup::lookup_answer(n, table, round, author, mark))
 }
 
 // `settlement::settle`. Number 0: the table is settled. The three buffers hold what that call leaves in them.
-#[unsafe(no_mangle)]
-pub extern "C" fn record_box_settle(
+pub fn record_box_settle(
     n: u8,
     table: &[u8],
     cells: &mut [u32],

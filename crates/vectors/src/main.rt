@@ -3,13 +3,13 @@
 // lent to each; then n, then the table.
 #![tactic(auto)]
 
-ghost use Rattle.std.specs.Prelude.{◌≡◌, ◌≤◌, IfOk, length};
+ghost use Rattle.std.specs.Prelude.{◌≡◌, ◌≤◌, length};
 ghost use Rattle.io.specs.Counts.{IsPrefixLen};
 
 use rules::{Checked, LookupAnswer, Name, Refusal, Settlement};
-use std::env::Env;
-use std::fs::{File, Files};
-use std::io::{Print, Read, Result};
+use std::env::{Env, FillError};
+use std::fs::File;
+use std::io::{Error, ErrorKind, Print, Read, Result};
 
 // The check is question 0.
 const LOOKUP: u8 = 1;
@@ -298,40 +298,58 @@ fn say_answer<P: Print>(rt: &P, input: &[u8]) -> Result<()> {
     Ok(())
 }
 
-// Reads until the buffer is full or the file ends.
-fn read_full<R: Read>(from: &mut R, buf: &mut [u8]) -> Result<usize>
-    ensures { IfOk result (λ k. IsPrefixLen k buf.new) }
+// Reads until the buffer is full, the file ends or a read fails, and says how many bytes came.
+fn read_full<R: Read>(from: &mut R, buf: &mut [u8]) -> usize
+    ensures { IsPrefixLen result buf.new }
 {
     let mut done: usize = 0;
     while done < buf.len() {
-        let more = from.read(&mut buf[done..])?;
+        let more = from.read(&mut buf[done..]).unwrap_or(0);
         if more == 0 {
-            return Ok(done);
+            return done;
         }
         done += more;
     }
-    Ok(done)
+    done
 }
 
-// A path that is no text names no file of data/.
-fn one<R: Files + Print>(rt: &R, path: &[u8]) -> Result<()> {
+// What cannot be opened is said on standard error, and the next file has its turn.
+fn complain(rt: &HostRuntime, path: &[u8], why: Error) -> Result<()> {
+    let to = rt.stderr();
+    to.write_all(path)?;
+    to.write_all(b": ")?;
+    to.println(why)
+}
+
+fn opened(rt: &HostRuntime, path: &[u8]) -> Result<File> {
+    match str::from_utf8(path) {
+        Ok(name) => File::open(rt, name),
+        Err(_) => Err(Error::from(ErrorKind::NotFound)),
+    }
+}
+
+fn one(rt: &HostRuntime, path: &[u8]) -> Result<()> {
     say(rt, path)?;
     say(rt, b"\n")?;
-    let mut file = match str::from_utf8(path) {
-        Ok(name) => File::open(rt, name)?,
-        Err(_) => return Ok(()),
-    };
-    let mut input = buffer();
-    let n = read_full(&mut file, &mut input)?;
-    say_answer(rt, &input[..n])
+    match opened(rt, path) {
+        Ok(f) => {
+            let mut file = f;
+            let mut input = buffer();
+            let n = read_full(&mut file, &mut input);
+            say_answer(rt, &input[..n])
+        }
+        Err(why) => complain(rt, path, why),
+    }
 }
 
+// A name that is too long for the buffer is that of no file.
 fn main(rt: HostRuntime) -> Result<()> {
     let mut path = io::buffer();
     for i in 1..usize::MAX {
         match rt.arg(i, &mut path) {
             Ok(k) => one(&rt, &path[..k])?,
-            Err(_) => break,
+            Err(FillError::TooLong) => one(&rt, b"")?,
+            Err(FillError::NotPresent) => break,
         }
     }
     Ok(())

@@ -16,4 +16,4 @@ returns-clause-out_after c =
     let cells : length c.answer-s.new.cells ≡ 474 = omega arith in
     let order : length c.answer-s.new.order ≡ 474 = omega arith in
     responds _ b _ c.answer-s.result c.answer-s.ensures held cells order
-        _ _ _ _ c.table_of.ensures c.requires c.output_page.ensures.output_page
+    _ _ _ _ c.table_of.ensures c.requires c.output_page.ensures.output_page

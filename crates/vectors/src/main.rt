@@ -73,23 +73,34 @@ fn shortened(b: &[u8]) -> &[u8] {
     b
 }
 
-fn say<P: Print>(rt: &P, text: &[u8]) -> Result<()> {
-    rt.write_all(text)
+// Nothing tells whether it is written, and what follows is said all the same.
+fn say<P: Print>(rt: &P, text: &[u8]) {
+    match rt.write_all(text) {
+        Ok(()) => {}
+        Err(_) => {}
+    }
 }
 
-fn say_refused<P: Print>(rt: &P, r: Refusal) -> Result<()> {
+fn say_number<P: Print>(rt: &P, n: u64) {
+    match rt.print(n) {
+        Ok(()) => {}
+        Err(_) => {}
+    }
+}
+
+fn say_refused<P: Print>(rt: &P, r: Refusal) {
     let mut line = [0u8; 112];
     let k = lines::line_refused(r, &mut line);
-    say(rt, &line[..k])
+    say(rt, &line[..k]);
 }
 
-fn say_vertex<P: Print>(rt: &P, x: Name) -> Result<()> {
+fn say_vertex<P: Print>(rt: &P, x: Name) {
     let mut line = [0u8; 112];
     let k = lines::line_vertex(x, &mut line);
-    say(rt, &line[..k])
+    say(rt, &line[..k]);
 }
 
-fn say_check<P: Print>(rt: &P, n: u8, table: &[u8]) -> Result<()> {
+fn say_check<P: Print>(rt: &P, n: u8, table: &[u8]) {
     let c = table::check(n, table);
     match c {
         Checked::Passed => say(rt, b"passed\n"),
@@ -97,7 +108,7 @@ fn say_check<P: Print>(rt: &P, n: u8, table: &[u8]) -> Result<()> {
     }
 }
 
-fn say_found<P: Print>(rt: &P, n: u8, table: &[u8], x: Name) -> Result<()> {
+fn say_found<P: Print>(rt: &P, n: u8, table: &[u8], x: Name) {
     let a = lookup::lookup_answer(n, table, x.round, x.author, x.mark);
     match a {
         LookupAnswer::Found => say(rt, b"found\n"),
@@ -106,17 +117,16 @@ fn say_found<P: Print>(rt: &P, n: u8, table: &[u8], x: Name) -> Result<()> {
 }
 
 // The length of the part that is handed back, and the name in it: a neighbour's bytes would show.
-fn say_part<P: Print>(rt: &P, part: &[u8]) -> Result<()> {
-    say(rt, b"part ")?;
-    rt.print(part.len())?;
-    say(rt, b"\n")?;
+fn say_part<P: Print>(rt: &P, part: &[u8]) {
+    say(rt, b"part ");
+    say_number(rt, part.len() as u64);
+    say(rt, b"\n");
     if 0 < part.len() {
-        say_vertex(rt, record::name_of(part))?;
+        say_vertex(rt, record::name_of(part));
     }
-    Ok(())
 }
 
-fn say_lookup<P: Print>(rt: &P, input: &[u8]) -> Result<()> {
+fn say_lookup<P: Print>(rt: &P, input: &[u8]) {
     let x = Name {
         round: numbers::u32_at(input, 1),
         author: numbers::byte_at(input, 5),
@@ -124,77 +134,70 @@ fn say_lookup<P: Print>(rt: &P, input: &[u8]) -> Result<()> {
     };
     let n = numbers::byte_at(input, 10);
     let table = rest(input, 11);
-    say_found(rt, n, table, x)?;
-    say_part(rt, lookup::lookup(n, table, x.round, x.author, x.mark))
+    say_found(rt, n, table, x);
+    say_part(rt, lookup::lookup(n, table, x.round, x.author, x.mark));
 }
 
 // A number and how often it stands there in a row; nothing if it doesn't.
-fn say_run<P: Print>(rt: &P, r: Run) -> Result<()> {
+fn say_run<P: Print>(rt: &P, r: Run) {
     if r.times == 0 {
-        return Ok(());
+        return;
     }
-    say(rt, b" ")?;
-    rt.print(r.number)?;
+    say(rt, b" ");
+    say_number(rt, r.number as u64);
     if 1 < r.times {
-        say(rt, b"*")?;
-        rt.print(r.times)?;
+        say(rt, b"*");
+        say_number(rt, r.times as u64);
     }
-    Ok(())
 }
 
 // The run with one more number, or a new one, and the old one is said. No buffer is so long that the count would wrap.
-fn said_up_to<P: Print>(rt: &P, r: Run, number: u32) -> Result<Run> {
+fn said_up_to<P: Print>(rt: &P, r: Run, number: u32) -> Run {
     if number == r.number {
-        return Ok(Run {
+        return Run {
             number,
             times: r.times.wrapping_add(1),
-        });
+        };
     }
-    say_run(rt, r)?;
-    Ok(Run { number, times: 1 })
+    say_run(rt, r);
+    Run { number, times: 1 }
 }
 
 // All cells or all order places, what was kept too.
-fn say_places<P: Print>(rt: &P, b: &[u32]) -> Result<()> {
+fn say_places<P: Print>(rt: &P, b: &[u32]) {
     let mut r = Run {
         number: 0,
         times: 0,
     };
     let mut i: usize = 0;
     while i < b.len() {
-        r = said_up_to(rt, r, b[i])?;
+        r = said_up_to(rt, r, b[i]);
         i += 1;
     }
-    say_run(rt, r)?;
-    say(rt, b"\n")
+    say_run(rt, r);
+    say(rt, b"\n");
 }
 
 // The same of taken bytes.
-fn say_taken<P: Print>(rt: &P, b: &[u8]) -> Result<()> {
+fn say_taken<P: Print>(rt: &P, b: &[u8]) {
     let mut r = Run {
         number: 0,
         times: 0,
     };
     let mut i: usize = 0;
     while i < b.len() {
-        r = said_up_to(rt, r, numbers::byte_at(b, i) as u32)?;
+        r = said_up_to(rt, r, numbers::byte_at(b, i) as u32);
         i += 1;
     }
-    say_run(rt, r)?;
-    say(rt, b"\n")
+    say_run(rt, r);
+    say(rt, b"\n");
 }
 
 // All that the program of document 01 would print.
-fn say_page<P: Print>(
-    rt: &P,
-    s: Settlement,
-    table: &[u8],
-    cells: &[u32],
-    order: &[u32],
-) -> Result<()> {
+fn say_page<P: Print>(rt: &P, s: Settlement, table: &[u8], cells: &[u32], order: &[u32]) {
     let mut out = buffer();
     let k = page::output_page(s, table, cells, order, &mut out);
-    say(rt, &out[..k])
+    say(rt, &out[..k]);
 }
 
 // The page, and all that the lent buffers hold then.
@@ -205,15 +208,15 @@ fn say_settled<P: Print>(
     cells: &mut [u32],
     order: &mut [u32],
     taken: &mut [u8],
-) -> Result<()> {
+) {
     let s = settlement::settle(n, table, cells, order, taken);
-    say_page(rt, s, table, cells, order)?;
-    say(rt, b"cells")?;
-    say_places(rt, cells)?;
-    say(rt, b"order")?;
-    say_places(rt, order)?;
-    say(rt, b"taken")?;
-    say_taken(rt, taken)
+    say_page(rt, s, table, cells, order);
+    say(rt, b"cells");
+    say_places(rt, cells);
+    say(rt, b"order");
+    say_places(rt, order);
+    say(rt, b"taken");
+    say_taken(rt, taken);
 }
 
 // The lesser of two lengths.
@@ -235,7 +238,7 @@ fn say_settled_in<P: Print>(
     cells: &mut [u32],
     order: &mut [u32],
     taken: &mut [u8],
-) -> Result<()> {
+) {
     let c = at_most(lent.cells, cells.len());
     let o = at_most(lent.order, order.len());
     let t = at_most(lent.taken, taken.len());
@@ -246,14 +249,14 @@ fn say_settled_in<P: Print>(
         &mut cells[0..c],
         &mut order[0..o],
         &mut taken[0..t],
-    )
+    );
 }
 
-fn say_settlement<P: Print>(rt: &P, n: u8, table: &[u8], lent: Lent) -> Result<()> {
+fn say_settlement<P: Print>(rt: &P, n: u8, table: &[u8], lent: Lent) {
     let mut cells = places();
     let mut order = places();
     let mut taken = taken_bytes();
-    say_settled_in(rt, n, table, lent, &mut cells, &mut order, &mut taken)
+    say_settled_in(rt, n, table, lent, &mut cells, &mut order, &mut taken);
 }
 
 // How much is lent, from byte i on.
@@ -268,34 +271,34 @@ fn lent_at(input: &[u8], i: usize) -> Lent
 }
 
 // The check, then the settlement with each of the sets of lengths.
-fn say_settlements<P: Print>(rt: &P, input: &[u8]) -> Result<()> {
+fn say_settlements<P: Print>(rt: &P, input: &[u8]) {
     let count = numbers::byte_at(input, 1) as usize;
     let n = numbers::byte_at(input, 2 + 6 * count);
     let table = rest(input, 3 + 6 * count);
-    say_check(rt, n, table)?;
+    say_check(rt, n, table);
     let mut i: usize = 0;
     while i < count {
-        say_settlement(rt, n, table, lent_at(input, 2 + 6 * i))?;
+        say_settlement(rt, n, table, lent_at(input, 2 + 6 * i));
         i += 1;
     }
-    Ok(())
 }
 
-fn say_answer<P: Print>(rt: &P, input: &[u8]) -> Result<()> {
+fn say_answer<P: Print>(rt: &P, input: &[u8]) {
     let question = numbers::byte_at(input, 0);
     if question == LOOKUP {
-        return say_lookup(rt, input);
+        say_lookup(rt, input);
+        return;
     }
     if question == SETTLE {
-        return say_settlements(rt, input);
+        say_settlements(rt, input);
+        return;
     }
     let n = numbers::byte_at(input, 1);
     let table = rest(input, 2);
-    say_check(rt, n, table)?;
+    say_check(rt, n, table);
     if question == TWICE {
-        say_check(rt, n, shortened(table))?;
+        say_check(rt, n, shortened(table));
     }
-    Ok(())
 }
 
 // Reads until the buffer is full, the file ends or a read fails, and says how many bytes came.
@@ -314,13 +317,16 @@ fn read_full<R: Read>(from: &mut R, buf: &mut [u8]) -> usize
 }
 
 // What cannot be opened is said on standard error, and the next file has its turn.
-fn complain(rt: &HostRuntime, path: &[u8], why: Error) -> Result<()> {
-    let to = rt.stderr();
-    to.write_all(path)?;
-    to.write_all(b": ")?;
-    to.println(why)
+fn complain<P: Print>(to: &P, path: &[u8], why: Error) {
+    say(to, path);
+    say(to, b": ");
+    match to.println(why) {
+        Ok(()) => {}
+        Err(_) => {}
+    }
 }
 
+// A path that is no text is that of no file.
 fn opened(rt: &HostRuntime, path: &[u8]) -> Result<File> {
     match str::from_utf8(path) {
         Ok(name) => File::open(rt, name),
@@ -328,29 +334,28 @@ fn opened(rt: &HostRuntime, path: &[u8]) -> Result<File> {
     }
 }
 
-fn one(rt: &HostRuntime, path: &[u8]) -> Result<()> {
-    say(rt, path)?;
-    say(rt, b"\n")?;
+fn one(rt: &HostRuntime, path: &[u8]) {
+    say(rt, path);
+    say(rt, b"\n");
     match opened(rt, path) {
         Ok(f) => {
             let mut file = f;
             let mut input = buffer();
             let n = read_full(&mut file, &mut input);
-            say_answer(rt, &input[..n])
+            say_answer(rt, &input[..n]);
         }
-        Err(why) => complain(rt, path, why),
+        Err(why) => complain(&rt.stderr(), path, why),
     }
 }
 
 // A name that is too long for the buffer is that of no file.
-fn main(rt: HostRuntime) -> Result<()> {
+fn main(rt: HostRuntime) {
     let mut path = io::buffer();
     for i in 1..usize::MAX {
         match rt.arg(i, &mut path) {
-            Ok(k) => one(&rt, &path[..k])?,
-            Err(FillError::TooLong) => one(&rt, b"")?,
+            Ok(k) => one(&rt, &path[..k]),
+            Err(FillError::TooLong) => one(&rt, b""),
             Err(FillError::NotPresent) => break,
         }
     }
-    Ok(())
 }

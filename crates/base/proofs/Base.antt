@@ -26,10 +26,10 @@ use Rattle.agreement.proofs.Agreement.{demand_3}
 use Rattle.agreement.proofs.Lent.{demand_3_in_buffers}
 use Rattle.settlement.specs.Promise.{SettlesTo}
 use Rattle.settlement.proofs.Unique.{settle_unique}
-use Rattle.table.proofs.check.Met as check-call
-use Rattle.lookup.proofs.lookup.Met as lookup-call
-use Rattle.lookup.proofs.lookup_answer.Met as lookup-answer-call
-use Rattle.settlement.proofs.settle.Met as settle-call
+use Rattle.table.proofs.check.Met as check_call
+use Rattle.lookup.proofs.lookup.Met as lookup_call
+use Rattle.lookup.proofs.lookup_answer.Met as lookup_answer_call
+use Rattle.settlement.proofs.settle.Met as settle_call
 use Rattle.exports.proofs.record_box_check.Met as exported_check
 use Rattle.exports.proofs.record_box_lookup.Met as exported_lookup
 use Rattle.exports.proofs.record_box_lookup_answer.Met as exported_lookup_answer
@@ -38,10 +38,10 @@ use Rattle.base.specs.Base.{Calls, Refuses, Settles, Base}
 
 calls : Calls
 calls = record {
-  check = check-call.met;
-  lookup = lookup-call.met;
-  lookup_answer = lookup-answer-call.met;
-  settle = settle-call.met;
+  check = check_call.met;
+  lookup = lookup_call.met;
+  lookup_answer = lookup_answer_call.met;
+  settle = settle_call.met;
   exported_check = exported_check.met;
   exported_lookup = exported_lookup.met;
   exported_lookup_answer = exported_lookup_answer.met;

@@ -21,12 +21,12 @@ use Rattle.rules.proofs.Only.{Only}
 use Rattle.agreement.specs.Agreement.{Premises, Demand3}
 use Rattle.agreement.specs.Buffers.{AgreeIn}
 use Rattle.settlement.specs.Promise.{SettlesTo}
-use Rattle.table.proofs.check.Statement as check-call
-use Rattle.lookup.proofs.lookup.Statement as lookup-call
-use Rattle.lookup.proofs.lookup_answer.Statement as lookup-answer-call
-use Rattle.settlement.proofs.settle.Statement as settle-call
-use Rattle.settlement.proofs.settle.Kinds as settle-kinds
-use Rattle.settlement.proofs.settle.Reads as settle-promise
+use Rattle.table.proofs.check.Statement as check_call
+use Rattle.lookup.proofs.lookup.Statement as lookup_call
+use Rattle.lookup.proofs.lookup_answer.Statement as lookup_answer_call
+use Rattle.settlement.proofs.settle.Statement as settle_call
+use Rattle.settlement.proofs.settle.Kinds as settle_kinds
+use Rattle.settlement.proofs.settle.Reads as settle_promise
 use Rattle.exports.proofs.record_box_check.Statement as exported_check
 use Rattle.exports.proofs.record_box_lookup.Statement as exported_lookup
 use Rattle.exports.proofs.record_box_lookup_answer.Statement as exported_lookup_answer
@@ -35,10 +35,10 @@ use Rattle.exports.proofs.record_box_settle.Statement as exported_settle
 -- A call meets its contract: whatever it is given it answers, its work ends, and what the contract says holds of the answer and of all that
 -- was lent. The contracts stand in the `src/` of each crate; none has a `requires`.
 pub record Calls : Type 2 where
-  pub check : {M : Type 1} → check-call.statement M
-  pub lookup : {M : Type 1} → lookup-call.statement M
-  pub lookup_answer : {M : Type 1} → lookup-answer-call.statement M
-  pub settle : {M : Type 1} → settle-call.statement M
+  pub check : {M : Type 1} → check_call.statement M
+  pub lookup : {M : Type 1} → lookup_call.statement M
+  pub lookup_answer : {M : Type 1} → lookup_answer_call.statement M
+  pub settle : {M : Type 1} → settle_call.statement M
   pub exported_check : {M : Type 1} → exported_check.statement M
   pub exported_lookup : {M : Type 1} → exported_lookup.statement M
   pub exported_lookup_answer : {M : Type 1} → exported_lookup_answer.statement M
@@ -77,10 +77,10 @@ pub record Base : Type 2 where
       → SettlesTo n u before' y after' → outcome_tells y.outcome ≡ gives d
       → AgreeIn t u c d after after'
   -- any two results that meet the contract of `settle` are equal; each crate's `proofs/Unique.antt` says it of its own
-  pub one_result : Only 4 settle-kinds.ps settle-kinds.r
+  pub one_result : Only 4 settle_kinds.ps settle_kinds.r
       (λ κs x e y f. (x ≡ y)
       × (lent e.1.1.0.now e.1.1.1.0.now e.1.1.1.1.0.now ≡ lent f.1.1.0.now f.1.1.1.0.now f.1.1.1.1.0.now))
-      settle-promise.Post
+      settle_promise.Post
   -- P1 to P14 and the three sums; and past f equivocators, commit before skip and the lowest mark
   pub examples : Hold
   pub past_f : PastF

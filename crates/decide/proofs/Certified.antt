@@ -13,7 +13,7 @@ use borrow.Author.Tests.{eqb-true, eqb-false, leb-true, ltb-true, ltb-false, eq-
 use Rattle.folds.specs.Folds.{◌and◌, count_to}
 use Rattle.folds.proofs.Tests.{by_test, passed, and_left, and_right, and_true, is_not, both_ways}
 use Rattle.folds.proofs.Laws.{First, first_is, count_witness, count_and, count_cut, count_same, first_same}
-use Rattle.folds.proofs.Lists.{get_d_tabulate}
+use Rattle.folds.proofs.Lists.{get_or_tabulate}
 use Rattle.rules.specs.declared.Name.{Name}
 use Rattle.rules.specs.declared.Vertex.{Vertex}
 use Rattle.rules.specs.Authors.{quorum}
@@ -79,7 +79,7 @@ module _ {n : ℕ} {vs : List Vertex} (A : Accepted n vs) where
 
     backs_low : (i : ℕ) → i < 31 → get_or marks i 0 ≡ backed i
     unfolding backs
-    backs_low i l = get_d_tabulate backed 31 i 0 l
+    backs_low i l = get_or_tabulate backed 31 i 0 l
 
     past_none : (i : ℕ) → n ≤ i → backed i ≡ 0
     past_none i l = backs_none i (eqb-true _ _ (passed _ (λ f. absurd (omega (arith, entry_low A w i lw (eqb-false _ _ f))))))

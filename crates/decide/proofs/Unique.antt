@@ -9,7 +9,7 @@ use Rattle.rules.specs.Settlement.{Buffers}
 use Rattle.rules.proofs.Refusals.{check_unique}
 use Rattle.rules.proofs.Only.{Only}
 use Rattle.decide.specs.Promise.{DecidesTo, cells_after, taken_after}
-use Rattle.decide.proofs.decide.Kinds as decide-kinds
+use Rattle.decide.proofs.decide.Kinds as decide_kinds
 use Rattle.decide.proofs.decide.Reads as decide
 
 decides_once : {n : ℕ} {t : List ℕ} {before : Buffers} {x y : Checked} {c d k l : List ℕ} → DecidesTo n t before x c k → DecidesTo n t before y d l
@@ -20,7 +20,7 @@ decides_once {n} {t} {before} p q =
     let taken = p.in_taken ∙ ap (λ c. taken_after c t before.taken) e ∙ sym q.in_taken in
     (check_unique _ _ e, (cells, taken))
 
-pub decide_unique : Only 4 decide-kinds.ps decide-kinds.r
+pub decide_unique : Only 4 decide_kinds.ps decide_kinds.r
     (λ κs x e y f. (x ≡ y) × ((e.1.1.0.now ≡ f.1.1.0.now) × (e.1.1.1.1.0.now ≡ f.1.1.1.1.0.now)))
     decide.Post
 decide_unique κs a x y e f p q = decides_once p q

@@ -1,40 +1,28 @@
--- Each export has one result: any two results that meet its promise are equal. Only the settlement changes what it is lent,
--- and what it leaves there is determined too.
+-- Each symbol that C links has one result, as the function of that name of `exports`.
 -- Assumes nothing.
-use Prim.Native.Nat.{ℕ}
-use mathlib.Core.Path.{◌≡◌, sym, ◌∙◌}
-use mathlib.Core.List.{List}
-use Rattle.rules.specs.Settlement.{Buffers, lent}
+use Rattle.std.proofs.Common.{◌≡◌, sym, ◌∙◌}
+use Rattle.rules.specs.Settlement.{lent}
 use Rattle.rules.proofs.Only.{Only}
-use Rattle.exports.specs.declared.SettledNumbers.{SettledNumbers}
-use Rattle.exports.specs.Answers.{SettlesAs}
-use Rattle.exports_c.proofs.record_box_check.Kinds as check-kinds
+use Rattle.exports.proofs.Unique.{settles_once}
+use Rattle.exports_c.proofs.record_box_check.Kinds as check_kinds
 use Rattle.exports_c.proofs.record_box_check.Reads as check
-use Rattle.exports_c.proofs.record_box_lookup.Kinds as lookup-kinds
+use Rattle.exports_c.proofs.record_box_lookup.Kinds as lookup_kinds
 use Rattle.exports_c.proofs.record_box_lookup.Reads as lookup
-use Rattle.exports_c.proofs.record_box_lookup_answer.Kinds as lookup-answer-kinds
+use Rattle.exports_c.proofs.record_box_lookup_answer.Kinds as lookup_answer_kinds
 use Rattle.exports_c.proofs.record_box_lookup_answer.Reads as lookup_answer
-use Rattle.exports_c.proofs.record_box_settle.Kinds as settle-kinds
+use Rattle.exports_c.proofs.record_box_settle.Kinds as settle_kinds
 use Rattle.exports_c.proofs.record_box_settle.Reads as settle
 
-pub check_unique : Only 1 check-kinds.ps check-kinds.r (λ κs x e y f. x ≡ y) check.Post
+pub check_unique : Only 1 check_kinds.ps check_kinds.r (λ κs x e y f. x ≡ y) check.Post
 check_unique κs a x y e f p q = p ∙ sym q
 
-pub lookup_unique : Only 1 lookup-kinds.ps lookup-kinds.r (λ κs x e y f. x ≡ y) lookup.Post
+pub lookup_unique : Only 1 lookup_kinds.ps lookup_kinds.r (λ κs x e y f. x ≡ y) lookup.Post
 lookup_unique κs a x y e f p q = p ∙ sym q
 
-pub lookup_answer_unique : Only 1 lookup-answer-kinds.ps lookup-answer-kinds.r (λ κs x e y f. x ≡ y) lookup_answer.Post
+pub lookup_answer_unique : Only 1 lookup_answer_kinds.ps lookup_answer_kinds.r (λ κs x e y f. x ≡ y) lookup_answer.Post
 lookup_answer_unique κs a x y e f p q = p ∙ sym q
 
--- the numbers of a settlement, and with them the cells, the order places and the taken bytes
-settles_once : {n : ℕ} {t : List ℕ} {before after other : Buffers} {x y : SettledNumbers} → SettlesAs n t before x after → SettlesAs n t before y other
-    → (x ≡ y) × (after ≡ other)
-settles_once p q = (
-  p.numbers ∙ sym q.numbers,
-  λ i. record { cells = (p.cells ∙ sym q.cells) i; order = (p.order ∙ sym q.order) i; taken = (p.taken ∙ sym q.taken) i },
-)
-
-pub settle_unique : Only 4 settle-kinds.ps settle-kinds.r
+pub settle_unique : Only 4 settle_kinds.ps settle_kinds.r
     (λ κs x e y f. (x ≡ y)
     × (lent e.1.1.0.now e.1.1.1.0.now e.1.1.1.1.0.now ≡ lent f.1.1.0.now f.1.1.1.0.now f.1.1.1.1.0.now))
     settle.Post

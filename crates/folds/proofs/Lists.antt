@@ -29,10 +29,10 @@ unfolding tabulate
 length_tabulate f zero = refl
 length_tabulate f (suc k) = length-append (tabulate f k) (f k ∷ []) ∙ ap (λ m. m + 1) (length_tabulate f k) ∙ add-one k
 
-pub get_d_tabulate {ℓ} : {A : Type ℓ} (f : ℕ → A) (k i : ℕ) (d : A) → i < k → get_or (tabulate f k) i d ≡ f i
+pub get_or_tabulate {ℓ} : {A : Type ℓ} (f : ℕ → A) (k i : ℕ) (d : A) → i < k → get_or (tabulate f k) i d ≡ f i
 unfolding tabulate
-get_d_tabulate f zero i d l = absurd (not-suc-le-zero l)
-get_d_tabulate {A = A} f (suc k) i d l = last_or_before (λ h. get_d_tabulate f k i d h) (eq-or-lt_of_le (le_of_suc-le-suc l))
+get_or_tabulate f zero i d l = absurd (not-suc-le-zero l)
+get_or_tabulate {A = A} f (suc k) i d l = last_or_before (λ h. get_or_tabulate f k i d h) (eq-or-lt_of_le (le_of_suc-le-suc l))
   where
     last_or_before : (i < k → get_or (tabulate f k) i d ≡ f i) → (i ≡ k) ⊎ (i < k) → get_or (tabulate f k ++ f k ∷ []) i d ≡ f i
     last_or_before rest (inl e) = get_or_at (tabulate f k) (f k) [] d i (length_tabulate f k ∙ sym e) ∙ ap f (sym e)

@@ -12,7 +12,7 @@ use lib.ListN.{length, get_or, set, drop, length-set, length-append, length-drop
 use lib.Seq.{get_or-set_same, get_or-set_other, ext_get_or, drop_at, set-append_left, drop-cons, append_snoc}
 use Rattle.folds.specs.Folds.{◌or◌, tabulate, bytes_over}
 use Rattle.folds.proofs.Tests.{compare}
-use Rattle.folds.proofs.Lists.{length_tabulate, get_d_tabulate, tabulate_same, tabulate_next, put_next}
+use Rattle.folds.proofs.Lists.{length_tabulate, get_or_tabulate, tabulate_same, tabulate_next, put_next}
 
 -- nothing more
 pub or_last : (b : Bool) → b ≡ b or false
@@ -26,11 +26,11 @@ pub set_tabulate : (f g : ℕ → ℕ) (k x v : ℕ) → x < k → v ≡ g x →
 set_tabulate f g k x v l e h = ext_get_or 0 _ _ (simp (length-set, length_tabulate)) (λ i m. at i (rw (length-set, length_tabulate) at m) (compare i x))
   where
     other : (i : ℕ) → i < k → i ≢ x → get_or (set (tabulate f k) x v) i 0 ≡ get_or (tabulate g k) i 0
-    other i m d = get_or-set_other (tabulate f k) x i v 0 d ∙ get_d_tabulate f k i 0 m ∙ h i m d ∙ sym (get_d_tabulate g k i 0 m)
+    other i m d = get_or-set_other (tabulate f k) x i v 0 d ∙ get_or_tabulate f k i 0 m ∙ h i m d ∙ sym (get_or_tabulate g k i 0 m)
 
     at : (i : ℕ) → i < k → (i < x) ⊎ ((i ≡ x) ⊎ (x < i)) → get_or (set (tabulate f k) x v) i 0 ≡ get_or (tabulate g k) i 0
     at i m (inl q) = other i m (λ w. omega arith)
-    at i m (inr (inl q)) = rw q (get_or-set_same (tabulate f k) x v 0 (rw length_tabulate l) ∙ e ∙ sym (get_d_tabulate g k x 0 l))
+    at i m (inr (inl q)) = rw q (get_or-set_same (tabulate f k) x v 0 (rw length_tabulate l) ∙ e ∙ sym (get_or_tabulate g k x 0 l))
     at i m (inr (inr q)) = other i m (λ w. omega arith)
 
 -- ---- bytes whose first k are what a function gives
@@ -38,7 +38,7 @@ set_tabulate f g k x v l e h = ext_get_or 0 _ _ (simp (length-set, length_tabula
 module _ (f : ℕ → ℕ) (k : ℕ) (old : List ℕ) where
   pub over_at : (q : ℕ) → q < k → get_or (bytes_over f k old) q 0 ≡ f q
   unfolding bytes_over
-  over_at q l = get_or-append (tabulate f k) (drop k old) 0 q (rw length_tabulate l) ∙ get_d_tabulate f k q 0 l
+  over_at q l = get_or-append (tabulate f k) (drop k old) 0 q (rw length_tabulate l) ∙ get_or_tabulate f k q 0 l
 
   pub over_length : k ≤ length old → length (bytes_over f k old) ≡ length old
   unfolding bytes_over

@@ -10,11 +10,11 @@ use Rattle.record.specs.Part.{SamePart}
 use Rattle.lookup.specs.declared.Standing.{Standing}
 use Rattle.lookup.specs.declared.Standing.TheVariants.{At, Refused}
 use Rattle.lookup.specs.Standing.{standing_tells}
-use Rattle.lookup.proofs.stands_at.Kinds as stands-at-kinds
+use Rattle.lookup.proofs.stands_at.Kinds as stands_at_kinds
 use Rattle.lookup.proofs.stands_at.Reads as stands_at
-use Rattle.lookup.proofs.lookup.Kinds as lookup-kinds
+use Rattle.lookup.proofs.lookup.Kinds as lookup_kinds
 use Rattle.lookup.proofs.lookup.Reads as lookup
-use Rattle.lookup.proofs.lookup_answer.Kinds as lookup-answer-kinds
+use Rattle.lookup.proofs.lookup_answer.Kinds as lookup_answer_kinds
 use Rattle.lookup.proofs.lookup_answer.Reads as lookup_answer
 
 standing_unique : (c d : Standing) → standing_tells c ≡ standing_tells d → c ≡ d
@@ -23,11 +23,11 @@ standing_unique (At p) (Refused s) e = absurd (gives_refusal p s e)
 standing_unique (Refused r) (At q) e = absurd (gives_refusal q r (sym e))
 standing_unique (Refused r) (Refused s) e = ap Refused (refusal_unique r s e)
 
-pub stands_at_unique : Only 1 stands-at-kinds.ps stands-at-kinds.r (λ κs x e y f. x ≡ y) stands_at.Post
+pub stands_at_unique : Only 1 stands_at_kinds.ps stands_at_kinds.r (λ κs x e y f. x ≡ y) stands_at.Post
 stands_at_unique κs a x y e f p q = standing_unique x y (p ∙ sym q)
 
-pub lookup_answer_unique : Only 1 lookup-answer-kinds.ps lookup-answer-kinds.r (λ κs x e y f. x ≡ y) lookup_answer.Post
+pub lookup_answer_unique : Only 1 lookup_answer_kinds.ps lookup_answer_kinds.r (λ κs x e y f. x ≡ y) lookup_answer.Post
 lookup_answer_unique κs a x y e f p q = refusals.lookup_unique x y (p ∙ sym q)
 
-pub lookup_unique : Only 1 lookup-kinds.ps lookup-kinds.r (λ κs x e y f. SamePart x y) lookup.Post
+pub lookup_unique : Only 1 lookup_kinds.ps lookup_kinds.r (λ κs x e y f. SamePart x y) lookup.Post
 lookup_unique κs a x y e f p q = record { block = p.block ∙ sym q.block; place = p.place ∙ sym q.place; bytes = p.bytes ∙ sym q.bytes }

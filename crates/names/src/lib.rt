@@ -3,7 +3,7 @@
 
 ghost use Rattle.std.specs.Prelude.{◌≡◌, ◌+◌, ◌%◌, if◌then◌else◌};
 ghost use Rattle.rules.specs.Record.{same_name};
-ghost use Rattle.rules.specs.Record.{below as isBelow};
+ghost use Rattle.rules.specs.Record.{below as is_below};
 
 use rules::Name;
 
@@ -12,7 +12,7 @@ use rules::Name;
 // x stands below y, by round, then author, then mark.
 #[tactic(auto, using(crate::proofs::Names::by_round, crate::proofs::Names::by_author, crate::proofs::Names::by_mark))]
 pub fn below(x: Name, y: Name) -> bool
-    ensures { result ≡ isBelow x y }
+    ensures { result ≡ is_below x y }
 {
     if x.round != y.round {
         return x.round < y.round;

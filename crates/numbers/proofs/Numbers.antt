@@ -12,13 +12,13 @@ use Rattle.rules.specs.Record.{number}
 
 -- ---- past the end
 
-pub get_d_past : (l : List ℕ) (i : ℕ) → length l ≤ i → get_or l i 0 ≡ 0
-get_d_past [] i h = refl
-get_d_past (x ∷ l) zero h = absurd (not-suc-le-zero h)
-get_d_past (x ∷ l) (suc i) h = get_d_past l i (omega arith)
+pub get_or_past : (l : List ℕ) (i : ℕ) → length l ≤ i → get_or l i 0 ≡ 0
+get_or_past [] i h = refl
+get_or_past (x ∷ l) zero h = absurd (not-suc-le-zero h)
+get_or_past (x ∷ l) (suc i) h = get_or_past l i (omega arith)
 
 pub get_or_take_past : (n : ℕ) (l : List ℕ) (i : ℕ) → n ≤ i → get_or (take n l) i 0 ≡ 0
-get_or_take_past n l i h = get_d_past (take n l) i (simp length-take (omega arith))
+get_or_take_past n l i h = get_or_past (take n l) i (simp length-take (omega arith))
 
 -- the part from i on is all that follows
 pub part_rest : (b : List ℕ) (i : ℕ) → take (length b - i) (drop i b) ≡ drop i b

@@ -11,7 +11,7 @@ use lib.Seq.{get_or-set_same, get_or-set_other, set-get_or, ext_get_or}
 use borrow.Author.Tests.{eqb-true, eqb-false, ltb-true, lt-ltb, le-ltb}
 use Rattle.folds.specs.Folds.{tabulate}
 use Rattle.folds.proofs.Tests.{by_test, both_ways}
-use Rattle.folds.proofs.Lists.{length_tabulate, get_d_tabulate}
+use Rattle.folds.proofs.Lists.{length_tabulate, get_or_tabulate}
 
 pub record Filled (f g : ℕ → ℕ) (i : ℕ) (r : List ℕ) : Type 0 where
   pub size : length r ≡ 31
@@ -47,7 +47,7 @@ filled_keep f g i r l e s = subst (Filled f g (i + 1)) (set-get_or r i 0) (fille
 pub filled_end : (f g h : ℕ → ℕ) (i : ℕ) (r : List ℕ) → ((j : ℕ) → j < 31 → cond (ltb j i) (f j) (g j) ≡ h j) → Filled f g i r → r ≡ tabulate h 31
 filled_end f g h i r e s =
     ext_get_or 0 r (tabulate h 31) (s.size ∙ sym (length_tabulate h 31))
-    (λ j l. let l' : j < 31 = omega (arith, s.size) in s.told j l' ∙ e j l' ∙ sym (get_d_tabulate h 31 j 0 l'))
+    (λ j l. let l' : j < 31 = omega (arith, s.size) in s.told j l' ∙ e j l' ∙ sym (get_or_tabulate h 31 j 0 l'))
 
 -- of the first n alone
 pub first_few : (n i j : ℕ) → i ≡ min n 31 → j < 31 → ltb j i ≡ ltb j n

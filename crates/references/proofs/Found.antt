@@ -12,7 +12,7 @@ use lib.ListN.{length, get_or}
 use borrow.Author.Tests.{eqb-true, eqb-false, ne_eqb, eq-eqb, ltb-true, ltb-false, lt-ltb}
 use Rattle.folds.proofs.Tests.{by_test, not_both, failed, is_not, is_not_true}
 use Rattle.folds.proofs.Laws.{first_by}
-use Rattle.folds.proofs.Lists.{get_d_tabulate}
+use Rattle.folds.proofs.Lists.{get_or_tabulate}
 use Rattle.rules.specs.declared.Name.{Name}
 use Rattle.rules.specs.declared.Vertex.{Vertex}
 use Rattle.rules.specs.Record.{first, records, vertices, at, name_of, entry, entry_name, below, find}
@@ -80,7 +80,7 @@ module _ {n : ℕ} (t : List ℕ) (A : Accepted n (vertices first t)) (p k : ℕ
   place_at : get_or (places_of n t p k) i 0 ≡ cond (ltb i n) (place_among t k (entry_name v i)) k
   unfolding places_of places_among
   place_at =
-      rw (← vertices_at first t p (rw (← vertices_length first t) l)) (get_d_tabulate (λ j. cond (ltb j n) (place_among t k (entry_name v j)) k) 31 i 0 li)
+      rw (← vertices_at first t p (rw (← vertices_length first t) l)) (get_or_tabulate (λ j. cond (ltb j n) (place_among t k (entry_name v j)) k) 31 i 0 li)
 
   none_at : entry v i ≡ 0 → get_or (places_of n t p k) i 0 ≡ k
   unfolding place_among

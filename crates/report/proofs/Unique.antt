@@ -4,14 +4,14 @@
 use mathlib.Core.Path.{◌≡◌, sym, ◌∙◌}
 use Rattle.rules.proofs.Only.{Only}
 use Rattle.lines.proofs.Text.{fills_once}
-use Rattle.report.proofs.output_line.Kinds as output-line-kinds
-use Rattle.report.proofs.output_line.Reads as output-line
-use Rattle.report.proofs.output_lines.Kinds as output-lines-kinds
-use Rattle.report.proofs.output_lines.Reads as output-lines
+use Rattle.report.proofs.output_line.Kinds as output_line_kinds
+use Rattle.report.proofs.output_line.Reads as output_line
+use Rattle.report.proofs.output_lines.Kinds as output_lines_kinds
+use Rattle.report.proofs.output_lines.Reads as output_lines
 
-pub output_line_unique : Only 4 output-line-kinds.ps output-line-kinds.r
-    (λ κs x e y f. (x ≡ y) × (e.1.1.1.1.1.0.now ≡ f.1.1.1.1.1.0.now)) output-line.Post
+pub output_line_unique : Only 4 output_line_kinds.ps output_line_kinds.r
+    (λ κs x e y f. (x ≡ y) × (e.1.1.1.1.1.0.now ≡ f.1.1.1.1.1.0.now)) output_line.Post
 output_line_unique κs a x y e f p q = fills_once p q
 
-pub output_lines_unique : Only 0 output-lines-kinds.ps output-lines-kinds.r (λ κs x e y f. x ≡ y) output-lines.Post
+pub output_lines_unique : Only 0 output_lines_kinds.ps output_lines_kinds.r (λ κs x e y f. x ≡ y) output_lines.Post
 output_lines_unique κs a x y e f p q = p ∙ sym q

@@ -5,7 +5,7 @@ use mathlib.Core.Path.{◌≡◌}
 use mathlib.Core.List.{List}
 use lib.ListN.{length}
 use Rattle.folds.proofs.Laws.{First, first_is}
-use Rattle.folds.proofs.Lists.{length_tabulate, get_d_tabulate}
+use Rattle.folds.proofs.Lists.{length_tabulate, get_or_tabulate}
 use Rattle.rules.specs.declared.Name.{Name}
 use Rattle.rules.specs.declared.Vertex.{Vertex}
 use Rattle.rules.specs.Record.{Edition, number, record_at, decode, records, vertices, no_vertex, at, name_of, same_name, find}
@@ -18,7 +18,7 @@ vertices_length E t = length_tabulate (λ p. decode E (record_at E t p)) (record
 -- the vertex at a position is its record, decoded
 pub vertices_at : (E : Edition) (t : List ℕ) (p : ℕ) → p < records E t → at (vertices E t) p ≡ decode E (record_at E t p)
 unfolding vertices
-vertices_at E t p l = get_d_tabulate (λ p. decode E (record_at E t p)) (records E t) p no_vertex l
+vertices_at E t p l = get_or_tabulate (λ p. decode E (record_at E t p)) (records E t) p no_vertex l
 
 -- a decoded vertex has 31 entries
 pub decode_entries : (E : Edition) (b : List ℕ) → length (decode E b).refs ≡ 31

@@ -13,7 +13,7 @@ use borrow.Author.Tests.{eqb-true, eqb-false, eq-eqb, ne_eqb, ltb-true, ltb-fals
 use Rattle.folds.specs.Folds.{◌and◌, ◌or◌, bit, count_to, any_to, first_to, tabulate}
 use Rattle.folds.proofs.Tests.{by_test, not_both, failed, and_left, and_right, and_true, or_cases, or_right, not_true, is_not, compare}
 use Rattle.folds.proofs.Laws.{first_by, any_none, any_witness, any_intro, count_same}
-use Rattle.folds.proofs.Lists.{get_d_tabulate, tabulate_same}
+use Rattle.folds.proofs.Lists.{get_or_tabulate, tabulate_same}
 use Rattle.rules.specs.declared.Name.{Name}
 use Rattle.rules.specs.declared.Vertex.{Vertex}
 use Rattle.rules.specs.Record.{at, name_of, below}
@@ -176,4 +176,4 @@ one_bit false = refl
 pub ones_count : (vs : List Vertex) (n : ℕ) (split : List ℕ) → n ≤ 31 → split ≡ tabulate (λ a. bit (equivocates vs a)) 31
     → count_to (λ a. eqb (get_or split a 0) 1) n ≡ equivocators n vs
 unfolding equivocators
-ones_count vs n split l e = count_same _ _ n (λ a h. rw (e, get_d_tabulate (λ a. bit (equivocates vs a)) 31 a 0 (omega arith)) (one_bit (equivocates vs a)))
+ones_count vs n split l e = count_same _ _ n (λ a h. rw (e, get_or_tabulate (λ a. bit (equivocates vs a)) 31 a 0 (omega arith)) (one_bit (equivocates vs a)))

@@ -8,7 +8,7 @@ use Rattle.rules.specs.Settlement.{Buffers, lent}
 use Rattle.rules.proofs.Refusals.{outcome_unique}
 use Rattle.rules.proofs.Only.{Only}
 use Rattle.settlement.specs.Promise.{SettlesTo}
-use Rattle.settlement.proofs.settle.Kinds as settle-kinds
+use Rattle.settlement.proofs.settle.Kinds as settle_kinds
 use Rattle.settlement.proofs.settle.Reads as settle
 
 -- the outcome, the cells, the order places and the taken bytes
@@ -19,7 +19,7 @@ settles_once {x = x} {y = y} p q = (
   λ i. record { cells = (p.cells ∙ sym q.cells) i; order = (p.order ∙ sym q.order) i; taken = (p.taken ∙ sym q.taken) i },
 )
 
-pub settle_unique : Only 4 settle-kinds.ps settle-kinds.r
+pub settle_unique : Only 4 settle_kinds.ps settle_kinds.r
     (λ κs x e y f. (x ≡ y)
     × (lent e.1.1.0.now e.1.1.1.0.now e.1.1.1.1.0.now ≡ lent f.1.1.0.now f.1.1.1.0.now f.1.1.1.1.0.now))
     settle.Post

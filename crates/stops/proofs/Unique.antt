@@ -3,13 +3,13 @@
 -- Assumes nothing.
 use mathlib.Core.Path.{◌≡◌, sym, ◌∙◌}
 use Rattle.rules.proofs.Only.{Only}
-use Rattle.stops.proofs.cell_at.Kinds as cell-at-kinds
-use Rattle.stops.proofs.cell_at.Reads as Cell-at
-use Rattle.stops.proofs.stop_at.Kinds as stop-at-kinds
-use Rattle.stops.proofs.stop_at.Reads as stop-at
+use Rattle.stops.proofs.cell_at.Kinds as cell_at_kinds
+use Rattle.stops.proofs.cell_at.Reads as cell_at
+use Rattle.stops.proofs.stop_at.Kinds as stop_at_kinds
+use Rattle.stops.proofs.stop_at.Reads as stop_at
 
-pub cell_at_unique : Only 1 cell-at-kinds.ps cell-at-kinds.r (λ κs x e y f. x ≡ y) Cell-at.Post
+pub cell_at_unique : Only 1 cell_at_kinds.ps cell_at_kinds.r (λ κs x e y f. x ≡ y) cell_at.Post
 cell_at_unique κs a x y e f p q = p ∙ sym q
 
-pub stop_at_unique : Only 1 stop-at-kinds.ps stop-at-kinds.r (λ κs x e y f. x ≡ y) stop-at.Post
+pub stop_at_unique : Only 1 stop_at_kinds.ps stop_at_kinds.r (λ κs x e y f. x ≡ y) stop_at.Post
 stop_at_unique κs a x y e f p q = p ∙ sym q

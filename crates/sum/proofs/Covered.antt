@@ -5,7 +5,7 @@ use Rattle.folds.proofs.Tests.{by_test}
 use Rattle.folds.specs.Folds.{sum_to}
 use Rattle.folds.proofs.Laws.{sum_start, sum_next}
 use Rattle.rules.specs.Record.{number, first, sum_of}
-use Rattle.numbers.proofs.Numbers.{get_d_past, get_or_take_past}
+use Rattle.numbers.proofs.Numbers.{get_or_past, get_or_take_past}
 
 -- k of the first m bytes, all that b has
 module _ (b : List ℕ) (m k : ℕ) (all : k ≡ min (length b) m) where
@@ -16,7 +16,7 @@ module _ (b : List ℕ) (m k : ℕ) (all : k ≡ min (length b) m) where
   covered_byte i h = by_test (ltb i k) (λ t. get_or-take k b i 0 (ltb-true i k t)) (λ t. past (ltb-false i k t))
     where
       past : k ≤ i → get_or (take k b) i 0 ≡ get_or b i 0
-      past q = get_or_take_past k b i q ∙ sym (get_d_past b i (omega arith))
+      past q = get_or_take_past k b i q ∙ sym (get_or_past b i (omega arith))
 
   -- a number that ends within the first m bytes is that of b
   pub covered_number : (j i : ℕ) → i + j ≤ m → number j (take k b) i ≡ number j b i

@@ -4,8 +4,8 @@
 use mathlib.Core.Path.{◌≡◌, sym, ◌∙◌}
 use Rattle.rules.proofs.Only.{Only}
 use Rattle.rules.proofs.Refusals as refusals
-use Rattle.table.proofs.check.Kinds as check-kinds
+use Rattle.table.proofs.check.Kinds as check_kinds
 use Rattle.table.proofs.check.Reads as check
 
-pub check_unique : Only 1 check-kinds.ps check-kinds.r (λ κs x e y f. x ≡ y) check.Post
+pub check_unique : Only 1 check_kinds.ps check_kinds.r (λ κs x e y f. x ≡ y) check.Post
 check_unique κs a x y e f p q = refusals.check_unique x y (p ∙ sym q)

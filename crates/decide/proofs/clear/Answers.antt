@@ -1,4 +1,5 @@
 -- `clear` meets its contract.
+-- Assumes nothing.
 use Rattle.std.proofs.Common.{set, refl, ap, ◌∙◌, arith}
 use Rattle.folds.proofs.Over.{over_none, over_next}
 use Rattle.decide.proofs.clear.Goals as goal

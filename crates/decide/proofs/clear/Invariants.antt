@@ -1,4 +1,5 @@
 -- The loop of `clear`: the first q bytes are 0, the rest is kept. The measure is the bytes that are left.
+-- Assumes nothing.
 use Rattle.std.proofs.Common.{◌≡◌, ◌-◌, ◌≤◌}
 use Rattle.folds.specs.Folds.{bytes_over}
 use Rattle.decide.proofs.clear.Given as goal

@@ -1,4 +1,5 @@
 -- `decide::decide` meets its contract: a refusal of the table or of what is lent, or every round decided.
+-- Assumes nothing.
 use Rattle.std.proofs.Common.{◌∙◌}
 use Rattle.rules.specs.Settlement.{lent}
 use Rattle.decide.proofs.Decided.{refused_to, passes_to, cells_suffice, taken_suffice, ready, decided_to, past_records}
@@ -9,25 +10,14 @@ returns-in-Refused c =
     refused_to c.args.n c.args.table.now (lent c.args.cells.now c.args.order.now c.args.taken.now) c.lent_check-c.ensures c.in-Refused.is
 
 pub slice_bounds-decide_all-end : goal.slice_bounds-decide_all-end
-slice_bounds-decide_all-end c =
-    let n = c.args.n in
-    let t = c.args.table.now in
-    let b = lent c.args.cells.now c.args.order.now c.args.taken.now in
-    taken_suffice n t b (passes_to n t b c.lent_check-c.ensures c.in-Passed.is) c.records_of-k.result c.records_of-k.ensures
+slice_bounds-decide_all-end c = taken_suffice _ _ _ (passes_to _ _ _ c.lent_check-c.ensures c.in-Passed.is) _ c.records_of-k.ensures
 
 pub decide_all-requires-clause-ready : goal.decide_all-requires-clause-ready
-decide_all-requires-clause-ready c =
-    let n = c.args.n in
-    let t = c.args.table.now in
-    let b = lent c.args.cells.now c.args.order.now c.args.taken.now in
-    ready n t b (passes_to n t b c.lent_check-c.ensures c.in-Passed.is) c.records_of-k.result c.records_of-k.ensures
+decide_all-requires-clause-ready c = ready _ _ _ (passes_to _ _ _ c.lent_check-c.ensures c.in-Passed.is) _ c.records_of-k.ensures
 
 pub decide_all-requires-clause-table_in_bounds : goal.decide_all-requires-clause-table_in_bounds
 decide_all-requires-clause-table_in_bounds c =
-    let n = c.args.n in
-    let t = c.args.table.now in
-    let b = lent c.args.cells.now c.args.order.now c.args.taken.now in
-    cells_suffice n t b (passes_to n t b c.lent_check-c.ensures c.in-Passed.is) c.records_of-k.result c.records_of-k.ensures
+    cells_suffice _ _ _ (passes_to _ _ _ c.lent_check-c.ensures c.in-Passed.is) _ c.records_of-k.ensures
 
 pub returns : goal.returns
 returns c =

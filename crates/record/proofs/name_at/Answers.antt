@@ -1,4 +1,5 @@
 -- `record::name_at` meets its contract: the part is the record at p, and past the last whole record there are zeros.
+-- Assumes nothing.
 use Rattle.std.proofs.Common.{sym, ap, ◌∙◌, arith}
 use Rattle.rules.specs.Record.{name_of}
 use Rattle.record.proofs.Parts.{part_vertex, past_vertex}

@@ -1,4 +1,5 @@
 -- `record::part` meets its contract: a whole record, what is left past the last one, or nothing, and where it stands.
+-- Assumes nothing.
 use Rattle.std.proofs.Common.{refl, arith}
 use Rattle.record.proofs.Parts.{own_bytes, left_bytes, no_bytes}
 use Rattle.record.proofs.part.Goals as goal

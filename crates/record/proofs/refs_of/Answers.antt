@@ -1,4 +1,5 @@
 -- `record::refs_of` meets its contract: one turn fills one place more, and when all are filled the list is the record's.
+-- Assumes nothing.
 use Rattle.std.proofs.Common.{◌≡◌, ◌+◌, ◌*◌, refl, sym, ◌∙◌, arith}
 use Rattle.std.proofs.Math.ListN.{length-set}
 use Rattle.std.proofs.Math.Seq.{take_all}

@@ -1,4 +1,5 @@
 -- `record::refs_of`. The loop's invariant: the first i places hold the first i references. The measure is the places that are left.
+-- Assumes nothing.
 use Rattle.std.proofs.Common.{◌≡◌, ◌+◌, ◌-◌, ◌*◌, ◌≤◌, length, take}
 use Rattle.folds.specs.Folds.{tabulate}
 use Rattle.rules.specs.Record.{number}

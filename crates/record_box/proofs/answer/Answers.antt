@@ -1,4 +1,5 @@
 -- `record_box::answer` meets its contract: an input that is too long, and any other.
+-- Assumes nothing.
 use Rattle.std.proofs.Common.{refl}
 use Rattle.record_box.proofs.Answered.{answers_long, answers_fits}
 use Rattle.record_box.proofs.answer.Goals as goal

@@ -1,4 +1,5 @@
 -- `record_box::read_whole`: what was read lies within the buffer, and each turn leaves fewer bytes of it.
+-- Assumes nothing.
 use Rattle.std.proofs.Common.{length, ◌-◌, ◌≤◌}
 use Rattle.record_box.proofs.read_whole.Given as goal
 

@@ -1,4 +1,5 @@
 -- `record_box::respond` meets its contract: its page is what the program is to print.
+-- Assumes nothing.
 use Rattle.std.proofs.Common.{◌≡◌, length, arith}
 use Rattle.rules.specs.Settlement.{lent}
 use Rattle.record_box.proofs.Rounds.{Held}

@@ -1,4 +1,5 @@
 -- `references::places_of` meets its contract: a turn fills one place more, and when all are filled the list is that of the contract.
+-- Assumes nothing.
 use Rattle.std.proofs.Common.{◌≡◌, ℕ, pred, ◌+◌, ◌≤◌, ◌<◌, ◌≢◌, min, cond, eqb, List, refl, sym, ap, ◌∙◌, arith, rules}
 use Rattle.std.proofs.Math.ListN.{set, length-replicate, get_or-replicate}
 use borrow.Author.Tests.{eqb-true, eqb-false, eq-eqb, ne_eqb}

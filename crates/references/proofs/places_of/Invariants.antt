@@ -1,5 +1,6 @@
 -- `references::places_of`. The loop's invariant: the first i places are those of the first i marks, the others `count`.
 -- The measure is the marks that are left.
+-- Assumes nothing.
 use Rattle.std.proofs.Common.{◌-◌, ◌≤◌}
 use Rattle.rules.specs.Record.{first, record_at, decode, entry, named}
 use Rattle.references.specs.Places.{place_among}

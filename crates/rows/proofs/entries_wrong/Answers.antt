@@ -1,4 +1,5 @@
 -- `rows::entries_wrong` meets its contract, by counts of entries.
+-- Assumes nothing.
 use Rattle.std.proofs.Common.{◌≡◌, ◌≤◌, sym, ap, ◌∙◌, arith}
 use Rattle.folds.specs.Folds.{count_to}
 use Rattle.rules.specs.Record.{refers}

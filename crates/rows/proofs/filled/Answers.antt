@@ -1,4 +1,5 @@
 -- `rows::filled` meets its contract: after the last turn all k entries are counted.
+-- Assumes nothing.
 use Rattle.std.proofs.Common.{◌≡◌, arith}
 use Rattle.rows.proofs.Entries.{filled_to}
 use Rattle.rows.proofs.filled.Goals as goal

@@ -1,4 +1,5 @@
 -- `rows::filled`: c references stand among the first i entries. The measure is the entries that are left.
+-- Assumes nothing.
 use Rattle.std.proofs.Common.{◌≡◌, ◌-◌, ◌≤◌}
 use Rattle.rows.proofs.Entries.{filled_to}
 use Rattle.rows.proofs.filled.Given as goal

@@ -1,4 +1,5 @@
 -- `search::find` meets its contract: the place that the halving finds has the name, or no place has it.
+-- Assumes nothing.
 use Rattle.std.proofs.Common.{◌≡◌, min, sym, ◌∙◌, arith}
 use Rattle.rules.specs.Record.{first, records}
 use Rattle.search.specs.Search.{name_at}

@@ -1,4 +1,5 @@
 -- `search::highest_of` meets its contract: the last record's round.
+-- Assumes nothing.
 use Rattle.std.proofs.Common.{sym, ap, ◌∙◌, arith}
 use Rattle.rules.specs.declared.Name.{Name}
 use Rattle.search.proofs.Names.{name_at_lem}

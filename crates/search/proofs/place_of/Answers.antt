@@ -1,4 +1,5 @@
 -- `search::place_of` meets its contract: each turn leaves what answers as before, and nothing left answers with the place.
+-- Assumes nothing.
 use Rattle.std.proofs.Common.{◌≡◌, ℕ, ◌+◌, ◌-◌, ◌/◌, refl, sym, ap, ◌∙◌, arith}
 use Rattle.rules.specs.Record.{below}
 use Rattle.search.specs.Search.{name_at}

@@ -1,4 +1,5 @@
 -- `search::place_of`. The loop's invariant: what is left to halve answers as the whole. The measure is how many records are left.
+-- Assumes nothing.
 use Rattle.std.proofs.Common.{◌≡◌, ◌-◌, ◌≤◌}
 use Rattle.rules.specs.Record.{below}
 use Rattle.search.specs.Search.{halves, name_at, place_of}

@@ -1,4 +1,5 @@
 -- `settlement::settle` meets its contract: the refusal that `decide` answers, or a settled table.
+-- Assumes nothing.
 use Rattle.std.proofs.Common.{◌≡◌, ℕ, ◌<◌, eqb, length, get_or, refl, sym, ◌∙◌, arith}
 use Rattle.rules.specs.declared.Counts.{Counts}
 use Rattle.rules.specs.declared.Outcome.TheVariants as outcome

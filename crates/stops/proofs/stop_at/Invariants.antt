@@ -1,4 +1,5 @@
 -- `stops::stop_at`: every round passed is skipped. The measure is what is left up to the top.
+-- Assumes nothing.
 use Rattle.std.proofs.Common.{ℕ, ◌≡◌, ◌+◌, ◌-◌, ◌≤◌, ◌<◌, get_or}
 use Rattle.stops.proofs.stop_at.Given as goal
 

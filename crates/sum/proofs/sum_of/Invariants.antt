@@ -1,4 +1,5 @@
 -- `sum::sum_of`: the sum is that of the first i words as whole numbers, modulo 65536. The measure is the words that are left.
+-- Assumes nothing.
 use Rattle.std.proofs.Common.{◌≡◌, ◌-◌, ◌%◌, ◌≤◌}
 use Rattle.sum.proofs.Covered.{words}
 use Rattle.sum.proofs.sum_of.Given as goal

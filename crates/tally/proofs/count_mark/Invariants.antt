@@ -1,4 +1,5 @@
 -- `tally::count_mark`: c of the first i are the mark. The measure is what is left of the 31.
+-- Assumes nothing.
 use Rattle.std.proofs.Common.{◌≡◌, ◌-◌, ◌≤◌}
 use Rattle.tally.proofs.Marks.{counted}
 use Rattle.tally.proofs.count_mark.Given as goal

@@ -1,4 +1,5 @@
 -- `tally::enough_of` meets its contract: the first mark of which there are enough is told, and 0 after the last turn.
+-- Assumes nothing.
 use Rattle.std.proofs.Common.{◌≡◌, false, sym, arith, below_more}
 use Rattle.tally.proofs.Marks.{enough_at, enough_found, enough_none, enough_empty, enough_few, enough_many}
 use Rattle.tally.proofs.enough_of.Goals as goal

@@ -1,4 +1,5 @@
 -- `tally::enough_of`: enough back none of the first i marks. The measure is what is left of the 31.
+-- Assumes nothing.
 use Rattle.std.proofs.Common.{ℕ, ◌≡◌, ◌-◌, ◌≤◌, ◌<◌, false}
 use Rattle.tally.proofs.Marks.{enough_at}
 use Rattle.tally.proofs.enough_of.Given as goal

@@ -1,4 +1,5 @@
 -- `vectors::buffer` meets its contract by the length of a repeated byte, so that no proof counts to it.
+-- Assumes nothing.
 use Rattle.std.proofs.Common.{ℕ, sym}
 use Rattle.std.proofs.lemmas.List.{length-replicate}
 use Rattle.vectors.proofs.buffer.Goals as goal

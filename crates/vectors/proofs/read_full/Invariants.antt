@@ -1,4 +1,5 @@
 -- `vectors::read_full`: what was read lies within the buffer, and each turn leaves fewer bytes of it.
+-- Assumes nothing.
 use Rattle.std.proofs.Common.{length, ◌-◌, ◌≤◌}
 use Rattle.vectors.proofs.read_full.Given as goal
 

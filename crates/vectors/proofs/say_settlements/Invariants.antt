@@ -1,4 +1,5 @@
 -- `vectors::say_settlements` ends: the measure is the settlements that are left. Nothing can be said of what is printed.
+-- Assumes nothing.
 use Rattle.std.proofs.Common.{◌-◌}
 use Rattle.vectors.proofs.say_settlements.Given as goal
 

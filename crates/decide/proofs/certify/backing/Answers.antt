@@ -1,4 +1,5 @@
 -- `certify::backing` meets its contract.
+-- Assumes nothing.
 use Rattle.std.proofs.Common.{◌≡◌, ◌<◌, arith}
 use borrow.Author.Tests.{lt-ltb}
 use Rattle.references.proofs.Filled.{filled_next, filled_left, filled_end}

@@ -1,5 +1,6 @@
 -- The loop of `certify::backing`: the first i are the marks that the first i references back, the others still the places of the references.
 -- The measure is the references that are left.
+-- Assumes nothing.
 use Rattle.std.proofs.Common.{◌-◌, ◌≤◌, get_or}
 use Rattle.rules.specs.Record.{at, entry, entry_name, vertex_of}
 use Rattle.references.specs.Places.{places_of}

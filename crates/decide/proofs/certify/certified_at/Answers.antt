@@ -1,4 +1,5 @@
 -- `certify::certified_at` meets its contract.
+-- Assumes nothing.
 use Rattle.std.proofs.Common.{◌≡◌, sym, ◌∙◌}
 use Rattle.rules.specs.Authors.{quorum}
 use Rattle.rules.specs.Record.{first}

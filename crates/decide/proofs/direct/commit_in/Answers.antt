@@ -1,4 +1,5 @@
 -- `direct::commit_in` meets its contract.
+-- Assumes nothing.
 use Rattle.std.proofs.Common.{◌+◌, ◌-◌, sym, ◌∙◌, arith}
 use borrow.Author.Tests.{le-leb, lt-leb}
 use Rattle.rules.specs.Authors.{quorum}

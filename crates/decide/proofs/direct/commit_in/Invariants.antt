@@ -1,4 +1,5 @@
 -- The loop of `direct::commit_in`: none of the vertices from b on before p is a direct commit. The measure is the vertices that are left.
+-- Assumes nothing.
 use Rattle.std.proofs.Common.{◌-◌, ◌≤◌}
 use Rattle.rules.specs.Support.{direct_commit}
 use Rattle.decide.specs.Ready.{vertices_of}

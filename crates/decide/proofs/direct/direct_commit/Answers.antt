@@ -1,4 +1,5 @@
 -- `direct::direct_commit` meets its contract.
+-- Assumes nothing.
 use Rattle.std.proofs.Common.{◌≡◌, ◌+◌, ◌≤◌, inr, refl, sym, ◌∙◌, arith}
 use Rattle.rules.specs.Record.{first}
 use Rattle.rules.specs.Support.{direct_commit}

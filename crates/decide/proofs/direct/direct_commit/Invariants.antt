@@ -1,4 +1,5 @@
 -- The loop of `direct::direct_commit`: none of the slot's vertices before b is a direct commit. The measure is the vertices that are left.
+-- Assumes nothing.
 use Rattle.std.proofs.Common.{◌-◌, ◌≤◌}
 use Rattle.rules.specs.Support.{direct_commit}
 use Rattle.decide.specs.Ready.{vertices_of}

@@ -1,4 +1,5 @@
 -- `direct::direct_skip` meets its contract: the authors that have tag 1 are those with a blank vertex.
+-- Assumes nothing.
 use Rattle.decide.proofs.Tagging.{skip_tagged}
 use Rattle.decide.proofs.direct.direct_skip.Goals as goal
 

@@ -1,4 +1,5 @@
 -- `direct::directly` meets its contract: the first direct commit, else a skip, else 0.
+-- Assumes nothing.
 use Rattle.std.proofs.Common.{sym, ◌∙◌, arith}
 use Rattle.rules.specs.Record.{first}
 use Rattle.rules.specs.Decide.{box_setting}

@@ -1,4 +1,5 @@
 -- `history::certified_in` meets its contract: of the vertices two rounds up, those in the history tell what they certify.
+-- Assumes nothing.
 use Rattle.std.proofs.Common.{◌≡◌, ℕ, ◌+◌, ◌≤◌, ◌<◌, min, ltb, List, get_or, inl, sym, ap, ◌∙◌, arith}
 use borrow.Author.Tests.{ltb-true, ltb-false}
 use Rattle.folds.proofs.Tests.{by_test}

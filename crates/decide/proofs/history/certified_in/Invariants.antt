@@ -1,4 +1,5 @@
 -- The loop of `history::certified_in`: the best so far is the first vertex of the slot that a member of the history below w certifies.
+-- Assumes nothing.
 use Rattle.std.proofs.Common.{◌≡◌, ◌+◌, ◌-◌, ◌≤◌}
 use Rattle.rules.specs.Record.{first, vertices}
 use Rattle.rules.specs.Support.{references}

@@ -1,4 +1,5 @@
 -- The loop of `history::forget`: of the bytes passed none tells of a history.
+-- Assumes nothing.
 use Rattle.std.proofs.Common.{◌≡◌, ℕ, ◌-◌, ◌<◌}
 use Rattle.decide.specs.Work.{history_at}
 use Rattle.decide.proofs.history.forget.Given as goal

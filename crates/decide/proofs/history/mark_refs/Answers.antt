@@ -1,4 +1,5 @@
 -- `history::mark_refs` meets its contract: an entry that is 0 marks nothing, another one the vertex that it names.
+-- Assumes nothing.
 use Rattle.std.proofs.Common.{◌≡◌, ◌<◌, get_or, ap, ◌∙◌, arith}
 use Rattle.rules.specs.Record.{first, vertices}
 use Rattle.references.specs.Places.{places_of}

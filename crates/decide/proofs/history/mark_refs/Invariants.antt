@@ -1,4 +1,5 @@
 -- The loop of `history::mark_refs`: what the first i entries name is marked.
+-- Assumes nothing.
 use Rattle.std.proofs.Common.{◌-◌}
 use Rattle.rules.specs.Record.{first, vertices}
 use Rattle.decide.proofs.Sweeps.{MarkedTo}

@@ -1,4 +1,5 @@
 -- `history::start` meets its contract: every byte tells of no history, then the anchor's alone tells of it.
+-- Assumes nothing.
 use Rattle.std.proofs.Common.{◌≡◌, ℕ, ◌<◌, length, arith}
 use Rattle.rules.specs.Record.{first, vertices}
 use Rattle.rules.proofs.Records.{vertices_length}

@@ -1,4 +1,5 @@
 -- `history::sweep` meets its contract: what belongs is marked on, and what does not leaves the bytes as they are.
+-- Assumes nothing.
 use Rattle.std.proofs.Common.{◌≡◌, suc, ◌-◌, subst, arith}
 use Rattle.rules.specs.Record.{first, vertices}
 use Rattle.rules.specs.Support.{references}

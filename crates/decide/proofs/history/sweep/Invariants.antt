@@ -1,4 +1,5 @@
 -- The loop of `history::sweep`: all from p on are looked at.
+-- Assumes nothing.
 use Rattle.std.proofs.Common.{◌-◌, ◌≤◌}
 use Rattle.rules.specs.Record.{first, vertices}
 use Rattle.rules.specs.Support.{references}

@@ -1,4 +1,5 @@
 -- `range::begin` meets its contract: the search by halves goes over all records.
+-- Assumes nothing.
 use Rattle.decide.proofs.Ranges.{start_is}
 use Rattle.decide.proofs.range.begin.Goals as goal
 

@@ -1,5 +1,6 @@
 -- `rounds::by_anchor` meets its contract: past the highest round or at an undecided one it stays undecided, and else it goes through the
 -- anchor.
+-- Assumes nothing.
 use Rattle.std.proofs.Common.{◌≡◌, ℕ, ◌+◌, ◌-◌, ◌<◌, arith}
 use Rattle.rules.proofs.Slots.{one_leader_lem}
 use Rattle.decide.proofs.Anchors.{told_past, told_open, has_anchor, at_anchor, told_through}

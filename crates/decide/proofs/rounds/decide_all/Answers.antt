@@ -1,4 +1,5 @@
 -- `rounds::decide_all` meets its contract: one round more from the highest down.
+-- Assumes nothing.
 use Rattle.std.proofs.Common.{◌≡◌, ℕ, suc, ◌-◌, ◌<◌, sym, refl, subst, arith}
 use Rattle.rules.specs.Record.{first, vertices}
 use Rattle.rules.specs.Decide.{box_setting, highest}

@@ -1,5 +1,6 @@
 -- The loop of `rounds::decide_all`: the cells from `round` on hold their decisions, those past the highest round are as before, and the bytes
 -- hold the walk in hand.
+-- Assumes nothing.
 use Rattle.std.proofs.Common.{◌≤◌}
 use Rattle.rules.specs.Record.{first, vertices}
 use Rattle.rules.specs.Support.{references}

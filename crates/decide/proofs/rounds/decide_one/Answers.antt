@@ -1,4 +1,5 @@
 -- `rounds::decide_one` meets its contract: the direct rules, else the indirect one. Tags leave the history as it is.
+-- Assumes nothing.
 use Rattle.rules.proofs.Slots.{one_leader_lem}
 use Rattle.decide.proofs.InCells.{told_direct, told_on}
 use Rattle.decide.proofs.rounds.decide_one.Goals as goal

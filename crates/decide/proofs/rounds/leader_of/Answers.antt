@@ -1,4 +1,5 @@
 -- `rounds::leader_of` meets its contract.
+-- Assumes nothing.
 use Rattle.std.proofs.Common.{rules}
 use Rattle.rules.specs.Authors.{leader}
 use Rattle.decide.proofs.rounds.leader_of.Goals as goal

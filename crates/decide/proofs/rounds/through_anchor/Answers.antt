@@ -1,4 +1,5 @@
 -- `rounds::through_anchor` meets its contract: committed with the vertex that is found, or else skipped.
+-- Assumes nothing.
 use Rattle.std.proofs.Common.{sym, refl, ◌∙◌, arith}
 use Rattle.rules.specs.Record.{first}
 use Rattle.rules.specs.Decide.{box_setting}

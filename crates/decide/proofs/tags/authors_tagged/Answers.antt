@@ -1,4 +1,5 @@
 -- `tags::authors_tagged` meets its contract.
+-- Assumes nothing.
 use Rattle.std.proofs.Common.{◌≡◌, ◌+◌, ◌≤◌, min, inr, refl, sym, ap, ◌∙◌, arith}
 use Rattle.folds.specs.Folds.{bit}
 use Rattle.folds.proofs.Laws.{count_start}

@@ -1,5 +1,6 @@
 -- The loop of `tags::authors_tagged`: c of the first a authors have a vertex of the round with the tag, and `from` is where those of author a
 -- begin. The measure is the authors that are left.
+-- Assumes nothing.
 use Rattle.std.proofs.Common.{◌≡◌, ◌-◌, ◌≤◌}
 use Rattle.folds.specs.Folds.{count_to}
 use Rattle.decide.specs.Ready.{vertices_of}

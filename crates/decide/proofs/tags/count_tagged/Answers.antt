@@ -1,4 +1,5 @@
 -- `tags::count_tagged` meets its contract.
+-- Assumes nothing.
 use Rattle.std.proofs.Common.{◌≡◌, ◌-◌, sym, ◌∙◌, arith}
 use Rattle.folds.proofs.Laws.{count_start}
 use Rattle.decide.proofs.Tagging.{tagged_from, tag_yes, tag_no}

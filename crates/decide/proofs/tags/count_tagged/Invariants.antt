@@ -1,4 +1,5 @@
 -- The loop of `tags::count_tagged`: c of the bytes before q have the tag. The measure is the bytes that are left.
+-- Assumes nothing.
 use Rattle.std.proofs.Common.{◌≡◌, ◌-◌, ◌≤◌}
 use Rattle.folds.specs.Folds.{count_to}
 use Rattle.decide.proofs.Tagging.{tagged_from}

@@ -1,4 +1,5 @@
 -- `tags::tag_blank` meets its contract.
+-- Assumes nothing.
 use Rattle.std.proofs.Common.{◌≡◌, ◌+◌, ◌%◌, ◌≤◌, ◌<◌, eqb, length, inl, ap, ◌∙◌, arith}
 use Rattle.folds.specs.Folds.{bit}
 use Rattle.rules.specs.Record.{at, entry}

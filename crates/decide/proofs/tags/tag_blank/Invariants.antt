@@ -1,5 +1,6 @@
 -- The loop of `tags::tag_blank`: the vertices of the round before q have their tag, 1 for one that is blank. The measure is the vertices that
 -- are left.
+-- Assumes nothing.
 use Rattle.std.proofs.Common.{◌-◌, ◌≤◌, eqb}
 use Rattle.folds.specs.Folds.{bit}
 use Rattle.rules.specs.Record.{at, entry}

@@ -1,4 +1,5 @@
 -- `tags::tag_certified` meets its contract.
+-- Assumes nothing.
 use Rattle.std.proofs.Common.{◌≡◌, ◌+◌, ◌%◌, ◌≤◌, ◌<◌, length, inl, ap, ◌∙◌, arith}
 use Rattle.decide.specs.Ready.{vertices_of}
 use Rattle.decide.specs.Range.{start_of}

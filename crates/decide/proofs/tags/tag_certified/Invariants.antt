@@ -1,5 +1,6 @@
 -- The loop of `tags::tag_certified`: the vertices of the round before w have their tag, which of the window they certify. The measure is the
 -- vertices that are left.
+-- Assumes nothing.
 use Rattle.std.proofs.Common.{◌-◌, ◌≤◌}
 use Rattle.decide.specs.Ready.{vertices_of}
 use Rattle.decide.specs.Certify.{certified_at}

@@ -1,4 +1,5 @@
 -- `settlement::counts::count_ones` meets its contract: a byte that is 1 is counted, another is not.
+-- Assumes nothing.
 use Rattle.std.proofs.Common.{sym, ◌∙◌, arith}
 use borrow.Author.Tests.{eq-eqb, ne_eqb}
 use Rattle.folds.proofs.Laws.{count_start, count_yes, count_no}

@@ -1,4 +1,5 @@
 -- `settlement::counts::count_ones`: c of the first a bytes are 1. The measure is the bytes that are left.
+-- Assumes nothing.
 use Rattle.std.proofs.Common.{◌≡◌, ◌-◌, ◌≤◌, eqb, get_or}
 use Rattle.folds.specs.Folds.{count_to}
 use Rattle.settlement.proofs.counts.count_ones.Given as goal

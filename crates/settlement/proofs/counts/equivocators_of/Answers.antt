@@ -1,4 +1,5 @@
 -- `settlement::counts::equivocators_of` meets its contract: the bytes that are 1 are those of the equivocators.
+-- Assumes nothing.
 use Rattle.std.proofs.Common.{◌∙◌}
 use Rattle.decide.specs.Ready.{vertices_of}
 use Rattle.settlement.proofs.Counting.{ones_count}

@@ -1,4 +1,5 @@
 -- `settlement::counts::first_undecided` meets its contract: the cell at t is the first that is 0, or no cell is.
+-- Assumes nothing.
 use Rattle.std.proofs.Common.{◌≡◌, ℕ, ◌+◌, sym, ap, arith}
 use borrow.Author.Tests.{eq-eqb, ne_eqb}
 use Rattle.folds.proofs.Laws.{any_start, any_next, any_none, first_none}

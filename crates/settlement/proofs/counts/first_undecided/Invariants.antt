@@ -1,4 +1,5 @@
 -- `settlement::counts::first_undecided`: no cell below t is 0. The measure is the cells that are left.
+-- Assumes nothing.
 use Rattle.std.proofs.Common.{◌≡◌, ◌-◌, ◌≤◌, false, eqb, get_or}
 use Rattle.folds.specs.Folds.{any_to}
 use Rattle.settlement.proofs.counts.first_undecided.Given as goal

@@ -1,4 +1,5 @@
 -- `settlement::counts::split_authors` meets its contract: two neighbours of one round and author set that author's byte, others change none.
+-- Assumes nothing.
 use Rattle.std.proofs.Common.{◌≡◌, ◌+◌, ◌-◌, ◌<◌, length, sym, ap, ◌∙◌, arith}
 use lib.ListN.{set}
 use Rattle.rules.specs.declared.Name.{Name}

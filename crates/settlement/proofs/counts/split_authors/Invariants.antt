@@ -1,5 +1,6 @@
 -- `settlement::counts::split_authors`: the bytes tell of each author whether two neighbours among the first p records are of that author and
 -- of one round. The measure is the records that are left.
+-- Assumes nothing.
 use Rattle.std.proofs.Common.{◌≡◌, ◌-◌, ◌≤◌}
 use Rattle.decide.specs.Ready.{vertices_of}
 use Rattle.settlement.proofs.Counting.{splits}

@@ -1,4 +1,5 @@
 -- `settlement::counts::twins` meets its contract: the names that it compares are those of the two records.
+-- Assumes nothing.
 use Rattle.std.proofs.Common.{arith}
 use Rattle.rules.proofs.Records.{vertices_length}
 use Rattle.rules.specs.Record.{first}

@@ -1,4 +1,5 @@
 -- `settlement::order::mark_down` meets its contract: the vertex at p is due and marks what it references, or it marks nothing.
+-- Assumes nothing.
 use Rattle.std.proofs.Common.{◌≤◌, length, arith}
 use Rattle.decide.specs.Ready.{vertices_of}
 use Rattle.decide.proofs.Marked.{by_references}

@@ -1,5 +1,6 @@
 -- `settlement::order::mark_down`: all from p on have marked what they reference, if they are due, and nothing below `low` is due.
 -- The measure is p.
+-- Assumes nothing.
 use Rattle.std.proofs.Common.{◌≤◌, length}
 use Rattle.rules.specs.Support.{references}
 use Rattle.decide.specs.Ready.{vertices_of}

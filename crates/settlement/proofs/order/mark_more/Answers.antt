@@ -1,4 +1,5 @@
 -- `settlement::order::mark_more` meets its contract: a place below p is that of a vertex that entry i names, and any other tells that none is.
+-- Assumes nothing.
 use Rattle.std.proofs.Common.{◌≡◌, ◌<◌, get_or, ap, ◌∙◌, arith}
 use Rattle.references.specs.Places.{places_of}
 use Rattle.references.proofs.Found.{reference_at, no_reference, holds_before}

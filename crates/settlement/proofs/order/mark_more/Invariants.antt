@@ -1,4 +1,5 @@
 -- `settlement::order::mark_more`: what the first i entries name is marked, and nothing below `lowest`. The measure is the entries that are left.
+-- Assumes nothing.
 use Rattle.std.proofs.Common.{◌-◌, ◌≤◌}
 use Rattle.decide.specs.Ready.{vertices_of}
 use Rattle.settlement.proofs.Marking.{More}

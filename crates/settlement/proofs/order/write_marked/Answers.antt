@@ -1,4 +1,5 @@
 -- `settlement::order::write_marked` meets its contract: what is due at p gets the next place, and there is one for it.
+-- Assumes nothing.
 use Rattle.std.proofs.Common.{◌<◌, length, arith, rules}
 use Rattle.settlement.proofs.Writing.{put_start, put_no, put_yes, put_room}
 use Rattle.settlement.proofs.order.write_marked.Goals as goal

@@ -1,4 +1,5 @@
 -- `settlement::order::write_marked`: what is marked below p is written. The measure is the positions that are left.
+-- Assumes nothing.
 use Rattle.std.proofs.Common.{◌+◌, ◌-◌, ◌≤◌}
 use Rattle.settlement.proofs.Writing.{Put}
 use Rattle.settlement.proofs.order.write_marked.Given as goal

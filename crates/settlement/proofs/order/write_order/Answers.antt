@@ -1,5 +1,6 @@
 -- `settlement::order::write_order` meets its contract: slot by slot, a skipped one writes nothing, a committed one its history, and the first
 -- undecided one ends it.
+-- Assumes nothing.
 use Rattle.std.proofs.Common.{◌+◌, ◌-◌, ◌<◌, length, get_or, sym, ap, ◌∙◌, arith}
 use Rattle.folds.proofs.Over.{over_at}
 use Rattle.rules.specs.Decide.{box_setting, highest, decisions}

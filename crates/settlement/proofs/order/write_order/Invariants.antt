@@ -1,5 +1,6 @@
 -- `settlement::order::write_order`: the slots before s are gone through, and what is written then is in the places, the bytes and the count;
 -- if slot s is undecided, that is the whole order. The measure is the slots that are left.
+-- Assumes nothing.
 use Rattle.std.proofs.Common.{◌≡◌, ◌-◌, ◌≤◌, ◌<◌, get_or}
 use Rattle.rules.specs.Decide.{box_setting}
 use Rattle.decide.specs.Ready.{vertices_of}

@@ -8,9 +8,9 @@ use lib.ListN.{length, get_or, take}
 use lib.Seq.{take_at}
 use Rattle.rules.specs.declared.Vertex.{Vertex}
 use Rattle.rules.specs.declared.Counts.{Counts}
-use Rattle.rules.specs.Record.{first, vertices, at}
+use Rattle.rules.specs.Record.{first, vertices}
 use Rattle.rules.specs.Decision.{Decision, said}
-use Rattle.rules.specs.Decide.{box_setting, highest, decisions, decision_at}
+use Rattle.rules.specs.Decide.{box_setting, decisions, decision_at}
 use Rattle.rules.specs.Order.{order}
 use Rattle.rules.specs.Refusals.{Told, gives, refused}
 use Rattle.rules.specs.Settlement.{Buffers, lent_check, counts_of, settled, settle_if, settle}

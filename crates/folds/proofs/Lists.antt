@@ -1,8 +1,8 @@
 -- The laws of the lists that the folds make, and of a lent buffer that is written from its front.
 -- Assumes nothing.
-use Prim.Native.Nat.{ℕ, zero, suc, ◌+◌, ◌-◌, ◌<◌}
+use Prim.Native.Nat.{ℕ, zero, suc, ◌+◌, ◌<◌}
 use mathlib.Core.Path.{◌≡◌, refl, sym, ap, ap₂, ◌∙◌}
-use mathlib.Core.Logic.{◌⊎◌, inl, inr, ⊎_elim, ◌≢◌}
+use mathlib.Core.Logic.{◌⊎◌, inl, inr, ⊎_elim}
 use mathlib.Core.Bool.{Bool, true, false, cond, false≢true}
 use mathlib.Core.List.Memᴰ
 use mathlib.Core.List.{List, [], ◌∷◌, ◌++◌, Memᴰ, append-nil}
@@ -11,7 +11,7 @@ use native.Mathlib.Numerals.{add-one}
 use lib.ListN.{length, get_or, take, drop, set, length-append, get_or-append}
 use lib.Seq.{get_or_at, take-suc-set, drop-cons, set_at, append_snoc}
 use borrow.Author.Tests.{eqb-true, eq-eqb}
-use Rattle.folds.specs.Folds.{◌or◌, count_to, bit, filter_to, tabulate, member}
+use Rattle.folds.specs.Folds.{count_to, bit, filter_to, tabulate, member}
 use Rattle.folds.proofs.Tests.{or_cases, or_left, or_right}
 
 -- ---- tabulate

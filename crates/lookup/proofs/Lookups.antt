@@ -7,7 +7,7 @@ use native.Mathlib.Omega.{arith}
 use borrow.Author.Tests.{leb-false, lt-leb, le-leb}
 use Rattle.rules.specs.declared.Name.{Name}
 use Rattle.rules.specs.Record.{first, records, vertices, find}
-use Rattle.rules.specs.Refusals.{gives, refused, refusal, passed, ◌when◌, ◌then◌}
+use Rattle.rules.specs.Refusals.{gives, refused, refusal, passed, ◌then◌}
 use Rattle.rules.specs.Check.{check}
 use Rattle.rules.specs.Lookup.{lookup_check, lookup_place, lookup_begin, lookup_length}
 use Rattle.rules.proofs.Refusals.{when_passed, when_yes, when_no, then_passed, then_both, gives_refused}

@@ -11,7 +11,7 @@ use Rattle.rules.specs.declared.Counts.{Counts}
 use Rattle.rules.specs.Refusals.{Told, gives, refused}
 use Rattle.rules.specs.Record.{first, vertices, at}
 use Rattle.rules.specs.Decision.{Decision, cell, said}
-use Rattle.rules.specs.Decide.{box_setting, highest, decisions, decision_at}
+use Rattle.rules.specs.Decide.{box_setting, decisions, decision_at}
 use Rattle.rules.specs.Order.{write_from}
 use Rattle.rules.specs.Settlement.{Buffers, written_over, counts_of, settled, settle_if}
 use Rattle.rules.specs.Program.{line_s, line_r, line_v, lines_r, lines_v, lines}

@@ -3,7 +3,7 @@
 -- Assumes nothing.
 use Prim.Native.Nat.{ℕ, zero, suc, ◌+◌, ◌-◌, ◌*◌, ◌%◌, ◌≤◌, ◌<◌}
 use mathlib.Core.Path.{◌≡◌, refl, sym, ap, ◌∙◌, subst}
-use mathlib.Core.Logic.{◌⊎◌, ⊎_elim, ◌≢◌}
+use mathlib.Core.Logic.{⊎_elim, ◌≢◌}
 use mathlib.Core.Bool.{true, false}
 use mathlib.Core.List.{List}
 use native.Mathlib.Omega.{arith}
@@ -11,7 +11,7 @@ use native.Mathlib.Nat.{eq-or-lt_of_le, le_of_suc-le-suc, not-suc-le-zero}
 use lib.Dec.{leb, ltb, eqb}
 use lib.ListN.{length, get_or-eq_default}
 use borrow.Author.Tests.{eqb-true, eqb-false, eq-eqb, ne_eqb, leb-true, leb-false, ltb-true, ltb-false, lt-ltb}
-use Rattle.folds.specs.Folds.{◌and◌, ◌or◌, count_to, any_to}
+use Rattle.folds.specs.Folds.{◌and◌, count_to, any_to}
 use Rattle.folds.proofs.Tests.{by_test, not_both, failed, passed, and_left, and_right, and_true, and_false, or_neither, not_true, not_false, is_not}
 use Rattle.folds.proofs.Laws.{first_unique, any_none, count_cut}
 use Rattle.rules.specs.declared.Vertex.{Vertex}

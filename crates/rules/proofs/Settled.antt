@@ -12,7 +12,7 @@ use borrow.Author.Tests.{le-ltb}
 use Rattle.folds.proofs.Tests.{or_false}
 use Rattle.rules.specs.declared.Vertex.{Vertex}
 use Rattle.rules.specs.Record.{Edition, vertices}
-use Rattle.rules.specs.Refusals.{refused, passed}
+use Rattle.rules.specs.Refusals.{refused}
 use Rattle.rules.specs.Check.{check}
 use Rattle.rules.specs.Decide.{Setting, box_setting, highest, decisions}
 use Rattle.rules.specs.Settlement.{Buffers, too_short, counts_of, settle_if, lent_check}

@@ -4,7 +4,7 @@ use Rattle.std.specs.Prelude.{ℕ, Bool, not, List, [], ◌++◌, map, ltb, eqb,
 use Rattle.folds.specs.Folds.{◌and◌, ◌or◌, bit, count_to, any_to, tabulate, member}
 use Rattle.rules.specs.declared.Vertex.{Vertex}
 use Rattle.rules.specs.declared.Counts.{Counts}
-use Rattle.rules.specs.Record.{Edition, records, vertices, at}
+use Rattle.rules.specs.Record.{Edition, vertices, at}
 use Rattle.rules.specs.Refusals.{Told, gives, refused, refusal, ◌when◌, ◌then◌}
 use Rattle.rules.specs.Check.{check}
 use Rattle.rules.specs.Decision.{Decision, cell}

@@ -5,7 +5,7 @@ use Rattle.rules.specs.declared.Counts.{Counts}
 use Rattle.rules.specs.declared.Outcome.TheVariants as outcome
 use Rattle.rules.specs.Record.{first}
 use Rattle.rules.specs.Decision.{cell}
-use Rattle.rules.specs.Decide.{box_setting, highest, decisions, decision_at}
+use Rattle.rules.specs.Decide.{box_setting, decisions, decision_at}
 use Rattle.rules.specs.Order.{order}
 use Rattle.rules.specs.Settlement.{lent}
 use Rattle.rules.proofs.Records.{vertices_length}

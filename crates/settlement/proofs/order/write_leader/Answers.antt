@@ -1,6 +1,6 @@
 -- `settlement::order::write_leader` meets its contract: what is due after `mark_down` is the leader vertex's history but for what is written.
 -- Assumes nothing.
-use Rattle.std.proofs.Common.{◌≡◌, ◌+◌, ◌≤◌, ◌<◌, length, arith}
+use Rattle.std.proofs.Common.{◌+◌, ◌≤◌, ◌<◌, length, arith}
 use Rattle.folds.specs.Folds.{count_to}
 use Rattle.settlement.specs.Write.{due}
 use Rattle.decide.proofs.Marked.{by_references}

@@ -8,7 +8,7 @@ use native.Mathlib.Omega.{arith}
 use Rattle.rules.specs.declared.Counts.{Counts}
 use Rattle.rules.specs.declared.Settlement.{Settlement}
 use Rattle.rules.specs.Record.{first, vertices}
-use Rattle.rules.specs.Refusals.{Told, gives, refused, passed, outcome_tells}
+use Rattle.rules.specs.Refusals.{Told, gives, refused, passed, tells}
 use Rattle.rules.specs.Check.{check}
 use Rattle.rules.specs.Decide.{box_setting}
 use Rattle.rules.specs.Order.{order}
@@ -59,7 +59,7 @@ module _ (n : ℕ) (t : List ℕ) (before : Buffers) (x : Settlement) (after : B
   refuses : (c : Told (Unit {0})) → checked ≡ c → Refuses n t before x after
   unfolding settle settle_if settled
   refuses (gives a) e =
-      let is : outcome_tells x.outcome ≡ (settled (box_setting n) n (vertices first t) before).outcome =
+      let is : tells x.outcome ≡ (settled (box_setting n) n (vertices first t) before).outcome =
       S.outcome ∙ ap (λ c. (settle_if c (box_setting n) n (vertices first t) before).outcome) e in
       record {
         given = λ k values f. absurd (let z : ◌≡◌ {A = ℕ} 0 1 = cc in omega arith);
@@ -67,7 +67,7 @@ module _ (n : ℕ) (t : List ℕ) (before : Buffers) (x : Settlement) (after : B
         untouched = λ k values f. absurd (let z : ◌≡◌ {A = ℕ} 0 1 = cc in omega arith);
       }
   refuses (refused j ws) e =
-      let is : outcome_tells x.outcome ≡ refused j ws = S.outcome ∙ ap (λ c. (settle_if c (box_setting n) n (vertices first t) before).outcome) e in
+      let is : tells x.outcome ≡ refused j ws = S.outcome ∙ ap (λ c. (settle_if c (box_setting n) n (vertices first t) before).outcome) e in
       let kept : after ≡ before = sym buffers ∙ ap (λ c. (settle_if c (box_setting n) n (vertices first t) before).buffers) e in
       record { given = λ k values f. is ∙ cc; only_then = λ k values f. e ∙ cc; untouched = λ k values f. kept }
 
@@ -80,7 +80,7 @@ module _ (n : ℕ) (t : List ℕ) (before : Buffers) (x : Settlement) (after : B
       let fits : checked ≡ passed = then_passed _ _ p ∙ when_no _ _ e in
       record { counts = rw fits at S.outcome; cells = rw fits at S.cells; places = rw fits at S.order; taken = rw fits at S.taken }
 
-  pub settled_to : (c : Counts) → outcome_tells x.outcome ≡ gives c → SettledTo n t before c after
+  pub settled_to : (c : Counts) → tells x.outcome ≡ gives c → SettledTo n t before c after
   settled_to c e = record { outcome = sym S.outcome ∙ e; buffers = buffers }
 
 pub base : Base

@@ -5,7 +5,7 @@ use Rattle.rules.specs.declared.Counts.{Counts}
 use Rattle.rules.specs.declared.Refusal.{Refusal}
 use Rattle.rules.specs.declared.Settlement.{Settlement}
 use Rattle.rules.specs.Record.{first, vertices}
-use Rattle.rules.specs.Refusals.{gives, refused, passed, row_of, outcome_tells}
+use Rattle.rules.specs.Refusals.{gives, refused, passed, row_of, tells}
 use Rattle.rules.specs.Check.{check}
 use Rattle.rules.specs.Nine.{check_with_9}
 use Rattle.rules.specs.Decision.{cell}
@@ -48,13 +48,13 @@ pub record Calls : Type 2 where
 module _ (n : ℕ) (t : List ℕ) (before : Buffers) (x : Settlement) (after : Buffers) where
   -- Each refusal is given exactly when document 01 says, and then only; a refused call changes no lent byte.
   pub record Refuses : Type 0 where
-    pub given : (k : ℕ) (values : List ℕ) → lent_check (box_setting n) first n t before ≡ refused k values → outcome_tells x.outcome ≡ refused k values
-    pub only_then : (k : ℕ) (values : List ℕ) → outcome_tells x.outcome ≡ refused k values → lent_check (box_setting n) first n t before ≡ refused k values
-    pub untouched : (k : ℕ) (values : List ℕ) → outcome_tells x.outcome ≡ refused k values → after ≡ before
+    pub given : (k : ℕ) (values : List ℕ) → lent_check (box_setting n) first n t before ≡ refused k values → tells x.outcome ≡ refused k values
+    pub only_then : (k : ℕ) (values : List ℕ) → tells x.outcome ≡ refused k values → lent_check (box_setting n) first n t before ≡ refused k values
+    pub untouched : (k : ℕ) (values : List ℕ) → tells x.outcome ≡ refused k values → after ≡ before
 
   -- An accepted table is decided by document 01's rules, and the order written is the one that the decisions fix.
   pub record Settles : Type 0 where
-    pub counts : outcome_tells x.outcome
+    pub counts : tells x.outcome
         ≡ gives (counts_of n (vertices first t) (decisions (box_setting n) n (vertices first t)) (order (box_setting n) n (vertices first t)))
     pub cells : after.cells ≡ written_over (map cell (decisions (box_setting n) n (vertices first t))) before.cells
     pub places : after.order ≡ written_over (order (box_setting n) n (vertices first t)) before.order
@@ -73,8 +73,8 @@ pub record Base : Type 2 where
   pub boxes_agree : Demand3
   pub calls_agree : (n : ℕ) (t u : List ℕ) → Premises first n t u
       → (before before' after after' : Buffers) (x y : Settlement) (c d : Counts)
-      → SettlesTo n t before x after → outcome_tells x.outcome ≡ gives c
-      → SettlesTo n u before' y after' → outcome_tells y.outcome ≡ gives d
+      → SettlesTo n t before x after → tells x.outcome ≡ gives c
+      → SettlesTo n u before' y after' → tells y.outcome ≡ gives d
       → AgreeIn t u c d after after'
   -- any two results that meet the contract of `settle` are equal; each crate's `proofs/Unique.antt` says it of its own
   pub one_result : Only 4 settle_kinds.ps settle_kinds.r

@@ -13,11 +13,12 @@ use borrow.Author.Tests.{ltb-true, ltb-false}
 use Rattle.folds.proofs.Tests.{by_test}
 use Rattle.rules.specs.declared.Vertex.{Vertex}
 use Rattle.rules.specs.Record.{Edition, at, vertices}
-use Rattle.rules.specs.Decision.{Decision, undecided, committed, cell}
+use Rattle.rules.specs.Decision.{Decision, undecided, committed, cell, said}
 use Rattle.rules.specs.Decide.{Setting, highest, anchor, through_anchor, indirect, decisions, decision_at}
 use Rattle.rules.proofs.Slots.{Geometry}
 use Rattle.rules.proofs.Accepted.{Accepted}
-use Rattle.rules.proofs.Decisions.{committed_decided}
+use Rattle.rules.proofs.Decisions.{committed_decided, committed_same}
+use Rattle.rules.proofs.Cells.{said_cell}
 use Rattle.rules.proofs.Decide.{Anchored, no_anchor, anchored, anchored_is, decisions_past, leads, slot_is}
 use Rattle.stops.specs.Stops.{stop_at}
 use Rattle.stops.proofs.Stops.{stop_here, stop_none, stop_low}
@@ -88,13 +89,23 @@ module _ (C : Setting) (G : Geometry C.slots) {n : ℕ} {vs : List Vertex} (A : 
           none (open_at l z q) = q
           none (anchor_at a l z d q) = absurd (omega arith)
 
-      pub anchor_open : get_or cells (k - 1) 0 ≡ 0 → found ≡ undecided
-      anchor_open h = none stopped_at
+      -- the cell there says what the search finds
+      pub anchor_said : k ≤ top → said (get_or cells (k - 1) 0) ≡ found
+      anchor_said h = there stopped_at
+        where
+          there : Stopped cells (k - 1) → said (get_or cells (k - 1) 0) ≡ found
+          there (past l q) = absurd (omega (arith, stops))
+          there (open_at l z q) = ap said z ∙ sym q
+          there (anchor_at a l z d q) = ap said z ∙ said_cell (committed a) ∙ sym q
+
+      -- and it finds an anchor or nothing
+      pub anchor_open : ((a : ℕ) → found ≢ committed a) → found ≡ undecided
+      anchor_open f = none stopped_at
         where
           none : Stopped cells (k - 1) → found ≡ undecided
           none (past l q) = q
           none (open_at l z q) = q
-          none (anchor_at a l z d q) = absurd (omega arith)
+          none (anchor_at a l z d q) = absurd (f a q)
 
     pub record Anchor (a : ℕ) : Type 0 where
       pub within : a < length vs
@@ -112,64 +123,63 @@ module _ (C : Setting) (G : Geometry C.slots) {n : ℕ} {vs : List Vertex} (A : 
         by_test (ltb a (start_of vs r 0)) (λ b. absurd (under (start_under A r 0 a (ltb-true a (start_of vs r 0) b)))) (λ b. ltb-false a (start_of vs r 0) b) in
         record { within = lead.0; above = above; is_found = q }
 
-    pub anchor_found : (k : ℕ) → k ≡ 1 + stop_at cells from top → k ≤ top → get_or cells (k - 1) 0 ≢ 0
-        → (2 ≤ get_or cells (k - 1) 0) × Anchor (get_or cells (k - 1) 0 - 2)
-    anchor_found k e h f = lead (stopped_at k e)
+    pub anchor_found : (k : ℕ) → k ≡ 1 + stop_at cells from top → k ≤ top → (a : ℕ) → found ≡ committed a → Anchor a
+    anchor_found k e h a f = lead (stopped_at k e)
       where
         from_on : from ≤ k - 1
         from_on = omega (arith, e, stop_low cells from top (omega (arith, e)))
 
-        lead : Stopped cells (k - 1) → (2 ≤ get_or cells (k - 1) 0) × Anchor (get_or cells (k - 1) 0 - 2)
-        lead (past l q) = absurd (omega (arith, e))
-        lead (open_at l z q) = absurd (f z)
-        lead (anchor_at a l z d q) =
-            let is : a ≡ get_or cells (k - 1) 0 - 2 = omega arith in
-            (omega arith, subst Anchor is (leads_above (k - 1) a from_on d q))
+        lead : Stopped cells (k - 1) → Anchor a
+        lead (past l q) = absurd (committed_decided f q)
+        lead (open_at l z q) = absurd (committed_decided f q)
+        lead (anchor_at b l z d q) = subst Anchor (committed_same q f) (leads_above (k - 1) b from_on d q)
 
--- ---- the slot in hand by the indirect rule, where the search stops at k
+-- ---- the slot in hand by the indirect rule
+
+-- The search stops at k, no higher than the highest slot, and the cell there says d.
+pub record StopsAt (C : Setting) (vs : List Vertex) (s : ℕ) (cells : List ℕ) (k : ℕ) (d : Decision ℕ) : Type 0 where
+  pub stops : k ≡ 1 + stop_at cells (C.slots.start s) (C.slots.up_to (highest vs))
+  pub low : k ≤ C.slots.up_to (highest vs)
+  pub told : d ≡ said (get_or cells (k - 1) 0)
 
 module _ {C : Setting} {E : Edition} {n : ℕ} {t : List ℕ} {s round leads-it : ℕ} {cells : List ℕ} {a p : ℕ} {work : List ℕ}
-    (I : InHand C E n t s round leads-it cells a p work) (G : Geometry C.slots) (k start upper : ℕ) (is-start : start ≡ C.slots.start s)
-    (is-top : upper ≡ C.slots.up_to (highest (vertices E t))) (stops : k ≡ 1 + stop_at cells start upper) where
+    (I : InHand C E n t s round leads-it cells a p work) (G : Geometry C.slots) where
   abbrev passed : Accepted n (vertices E t)
   passed = I.ready.sound.accepted
 
   abbrev last : Decision ℕ
   last = anchor (drop (C.slots.start s) (decisions C n (vertices E t)))
 
-  at_top : k ≡ 1 + stop_at cells (C.slots.start s) (C.slots.up_to (highest (vertices E t)))
-  at_top = rw (is-start, is-top) at stops
-
   left_open : last ≡ undecided → InCell C.step (vertices E t) (indirectly C n (vertices E t) s) work 0 a p work
   unfolding indirectly indirect
   left_open e = record { same_length = refl; in_cell = rw e; walked = I.walked }
 
-  pub told_past : upper < k → InCell C.step (vertices E t) (indirectly C n (vertices E t) s) work 0 a p work
-  told_past h = left_open (anchor_past C G passed s cells I.above k at_top (omega (arith, h, is-top)))
+  pub told_past : (k : ℕ) → k ≡ 1 + stop_at cells (C.slots.start s) (C.slots.up_to (highest (vertices E t)))
+      → C.slots.up_to (highest (vertices E t)) < k → InCell C.step (vertices E t) (indirectly C n (vertices E t) s) work 0 a p work
+  told_past k stops h = left_open (anchor_past C G passed s cells I.above k stops h)
 
-  -- v is what the cell holds there
-  module _ (v : ℕ) (read : v ≡ get_or cells (k - 1) 0) where
-    pub told_open : v ≡ 0 → InCell C.step (vertices E t) (indirectly C n (vertices E t) s) work 0 a p work
-    told_open z = left_open (anchor_open C G passed s cells I.above k at_top (sym read ∙ z))
+  module _ {k : ℕ} {d : Decision ℕ} (S : StopsAt C (vertices E t) s cells k d) where
+    last_is : d ≡ last
+    last_is = S.told ∙ anchor_said C G passed s cells I.above k S.stops S.low
 
-    module _ (h : k ≤ upper) (f : v ≢ 0) where
-      anchor_cell : (2 ≤ v) × Anchor C G passed s cells I.above (v - 2)
-      anchor_cell = rw read (anchor_found C G passed s cells I.above k at_top (omega (arith, h, is-top)) (λ z. f (read ∙ z)))
+    pub told_open : ((b : ℕ) → d ≢ committed b) → InCell C.step (vertices E t) (indirectly C n (vertices E t) s) work 0 a p work
+    told_open f = left_open (anchor_open C G passed s cells I.above k S.stops (λ b q. f b (last_is ∙ q)))
 
-      pub has_anchor : 2 ≤ v
-      has_anchor = anchor_cell.0
+    module _ (b : ℕ) (is : d ≡ committed b) where
+      anchor_is : Anchor C G passed s cells I.above b
+      anchor_is = anchor_found C G passed s cells I.above k S.stops S.low b (sym last_is ∙ is)
 
-      pub at_anchor : 0 < round → AtAnchor C.step E n t round (v - 2) a p work
+      pub at_anchor : 0 < round → AtAnchor C.step E n t round b a p work
       at_anchor pos = record {
         ready = I.ready;
         from_one = pos;
         low = round_low I;
-        within = anchor_cell.1.within;
-        above = rw I.slot.at_round at anchor_cell.1.above;
+        within = anchor_is.within;
+        above = rw I.slot.at_round at anchor_is.above;
         walked = I.walked;
       }
 
-      pub told_through : (c a' p' : ℕ) (new : List ℕ) → InCell C.step (vertices E t) (through_anchor C n (vertices E t) s (v - 2)) work c a' p' new
+      pub told_through : (c a' p' : ℕ) (new : List ℕ) → InCell C.step (vertices E t) (through_anchor C n (vertices E t) s b) work c a' p' new
           → InCell C.step (vertices E t) (indirectly C n (vertices E t) s) work c a' p' new
       unfolding indirectly indirect
-      told_through c a' p' new T = record { same_length = T.same_length; in_cell = T.in_cell ∙ rw anchor_cell.1.is_found; walked = T.walked }
+      told_through c a' p' new T = record { same_length = T.same_length; in_cell = T.in_cell ∙ rw anchor_is.is_found; walked = T.walked }

@@ -169,12 +169,13 @@ round_holds {n} {vs} A r q s = record { within = start_bound A r 0; held = befor
         under_start A r 0 p (omega (arith, s.within)) (inl (omega (arith, down, s.round, round_pos A q s.within)))
 
 -- the place that the search by halves of the code gives
-pub start_is : {n : ℕ} (t : List ℕ) → Accepted n (vertices first t) → (r a p : ℕ) → p ≡ place_of t (min (records first t) (records first t)) (named r a 0)
+pub start_is : {n : ℕ} (t : List ℕ) → Accepted n (vertices first t) → (r a k p : ℕ) → k ≡ records first t
+    → p ≡ place_of t (min k (records first t)) (named r a 0)
     → p ≡ start_of (vertices first t) r a
 unfolding start_of
-start_is {n} t A r a p e =
-    let all : min (records first t) (records first t) ≡ records first t = omega arith in
+start_is {n} t A r a k p all e =
+    let whole : min k (records first t) ≡ records first t = omega arith in
     let same : (i : ℕ) → i < records first t → not (below (name_at t i) (named r a 0)) ≡ not (below (name_of (at (vertices first t) i)) (named r a 0)) =
     λ i l. ap (λ x. not (below x (named r a 0))) (sym (name_at_lem t i l)) in
-    e ∙ rw (all, vertices_length first t)
+    e ∙ rw (whole, vertices_length first t)
     (sym (first_by _ (records first t) _ (place_first t (named r a 0) (rise_all n t A))) ∙ first_same _ _ (records first t) same)

@@ -7,10 +7,10 @@ use mathlib.Core.Bool.{Bool, true, false}
 use mathlib.Core.List.{List}
 use native.Mathlib.Omega.{arith}
 use native.Mathlib.Nat.{le_refl}
-use lib.Dec.{ltb, eqb}
+use lib.Dec.{eqb}
 use lib.ListN.{length, get_or, set}
 use lib.Seq.{get_or-set_same, get_or-set_other}
-use borrow.Author.Tests.{eqb-true, eqb-false, ltb-true, ltb-false}
+use borrow.Author.Tests.{eqb-true, eqb-false}
 use Rattle.folds.specs.Folds.{◌or◌, bit}
 use Rattle.folds.proofs.Tests.{by_test, or_right, or_none}
 use Rattle.rules.specs.declared.Vertex.{Vertex}
@@ -43,18 +43,10 @@ byte_bit x h = by_test (eqb (x / 128) 1) (λ e. rw e (eqb-true (x / 128) 1 e)) (
     zero_is : x / 128 ≢ 1 → x / 128 ≡ 0
     zero_is f = omega arith
 
--- one byte more that tells of none
-pub forget_next : (m : List ℕ) (q b : ℕ) → q < length m → b ≡ get_or m q 0 % 128 → ((i : ℕ) → i < q → history_at m i ≡ 0) → (i : ℕ) → i < q + 1
-    → history_at (set m q b) i ≡ 0
-forget_next m q b l e h i k = by_test (ltb i q) (λ t. rw (get_or-set_other m q i b 0 (λ z. omega (arith, ltb-true i q t))) (h i (ltb-true i q t))) here
-  where
-    here : ltb i q ≡ false → history_at (set m q b) i ≡ 0
-    here t = let z : i ≡ q = omega (arith, ltb-false i q t) in rw (z, get_or-set_same m q b 0 l, e) (omega arith)
-
 -- one byte alone that tells of it
-pub start_alone : (m : List ℕ) (k a b : ℕ) → a < length m → b ≡ 128 + get_or m a 0 % 128 → ((i : ℕ) → i < k → history_at m i ≡ 0)
-    → (i : ℕ) → i < k → history_at (set m a b) i ≡ bit (eqb i a)
-start_alone m k a b l e h i li = by_test (eqb i a) here (λ t. rw (get_or-set_other m a i b 0 (eqb-false i a t), t) (h i li))
+pub start_alone : (m : List ℕ) (a b : ℕ) → a < length m → b ≡ 128 + get_or m a 0 % 128 → ((i : ℕ) → history_at m i ≡ 0)
+    → (i : ℕ) → history_at (set m a b) i ≡ bit (eqb i a)
+start_alone m a b l e h i = by_test (eqb i a) here (λ t. rw (get_or-set_other m a i b 0 (eqb-false i a t), t) (h i))
   where
     here : eqb i a ≡ true → history_at (set m a b) i ≡ bit (eqb i a)
     here t =
@@ -95,8 +87,8 @@ module _ {n : ℕ} {vs : List Vertex} (A : Accepted n vs) (p : ℕ) (l : p < len
       other t = rw (get_or-set_other m j q b 0 (eqb-false q j t), next, t, or_none (named_to vs p i q)) (M q lq)
 
 module _ {n : ℕ} {vs : List Vertex} {step : StepRule} (A : Accepted n vs) (W : Walks step vs) (a : ℕ) where
-  pub swept_start : (m : List ℕ) → a < length vs → ((q : ℕ) → q < length vs → history_at m q ≡ bit (eqb q a)) → Swept step vs a (suc a) m
-  swept_start m l h = record { within = l; low = le_refl (suc a); told = λ q lq. h q lq ∙ ap bit (sym (marked_start A W a l q)) }
+  pub swept_start : (m : List ℕ) → a < length vs → ((q : ℕ) → history_at m q ≡ bit (eqb q a)) → Swept step vs a (suc a) m
+  swept_start m l h = record { within = l; low = le_refl (suc a); told = λ q lq. h q ∙ ap bit (sym (marked_start A W a l q)) }
 
   -- of the positions from p on, and the one before, they tell the whole history
   pub swept_history : (p : ℕ) (m : List ℕ) → Swept step vs a p m → (q : ℕ) → q < length vs → p ≤ suc q → history_at m q ≡ bit (get_or (history step vs a) q false)

@@ -1,19 +1,23 @@
 -- Tags: how a round's bytes are tagged one after the other, how the authors that have a tag are counted, and that the counts are those of
 -- the direct rules.
 -- Assumes nothing.
-use Prim.Native.Nat.{ℕ, ◌+◌, ◌-◌, ◌/◌, ◌%◌, ◌≤◌, ◌<◌, min}
+use Prim.Native.Nat.{ℕ, zero, suc, ◌+◌, ◌-◌, ◌/◌, ◌%◌, ◌≤◌, ◌<◌, min}
 use mathlib.Core.Path.{◌≡◌, refl, sym, ap, ◌∙◌}
+use mathlib.Core.Logic.{inr}
 use mathlib.Core.Bool.{Bool, true, false}
 use mathlib.Core.List.{List}
 use native.Mathlib.Numerals.{add-one}
 use native.Mathlib.Omega.{arith}
 use lib.Dec.{leb, ltb, eqb}
-use lib.ListN.{length, get_or, set, length-set}
+use lib.ListN.{length, get_or, set, take, drop, length-set}
 use lib.Seq.{get_or-set_same, get_or-set_other}
-use borrow.Author.Tests.{eqb-true, eqb-false, ltb-true, ltb-false, eq-eqb, ne_eqb, lt-ltb, le-ltb}
+use borrow.Author.Tests.{eqb-true, eqb-false, ltb-true, ltb-false, eq-eqb, lt-ltb, le-ltb}
+use Rattle.std.specs.List.{count_by}
+use Rattle.std.proofs.lemmas.List.{length-drop, get_or-drop}
+use Rattle.std.proofs.lemmas.List.Sums.{count_by_more_yes, count_by_more_no}
 use Rattle.folds.specs.Folds.{◌and◌, bit, any_to, count_to}
 use Rattle.folds.proofs.Tests.{by_test, and_left, and_right, and_true, both_ways}
-use Rattle.folds.proofs.Laws.{any_witness, any_intro, any_same, any_count, count_yes, count_no, count_same}
+use Rattle.folds.proofs.Laws.{any_witness, any_intro, any_same, any_count, count_start, count_yes, count_no, count_same}
 use Rattle.rules.specs.declared.Vertex.{Vertex}
 use Rattle.rules.specs.Authors.{quorum}
 use Rattle.rules.specs.Record.{at, entry}
@@ -22,8 +26,8 @@ use Rattle.rules.proofs.Accepted.{Accepted}
 use Rattle.rules.proofs.Support.{blank_is, is_blank, certifies_is}
 use Rattle.decide.specs.Range.{start_of}
 use Rattle.decide.specs.Certify.{certified_at}
-use Rattle.decide.specs.Work.{Window, history_at, tag_at, Retagged, Tagged, authors_tagged, window_tag}
-use Rattle.decide.proofs.Ranges.{InSlot, in_slot_lem, slot_in, round_in}
+use Rattle.decide.specs.Work.{Window, history_at, tag_at, Retagged, TaggedTo, Tagged, authors_tagged, window_tag}
+use Rattle.decide.proofs.Ranges.{start_bound, start_mono, InSlot, in_slot_lem, slot_in, round_in}
 use Rattle.decide.proofs.Certified.{certified_test}
 
 -- ---- bytes that are tagged
@@ -33,14 +37,6 @@ retagged_same m = record { same_length = refl; history_kept = λ q. refl }
 
 pub retagged_on : (a b c : List ℕ) → Retagged a b → Retagged b c → Retagged a c
 retagged_on a b c p q = record { same_length = q.same_length ∙ p.same_length; history_kept = λ i. q.history_kept i ∙ p.history_kept i }
-
--- The bytes from `from` on have their tags, up to q.
-pub record TaggedTo (from : ℕ) (tag : ℕ → ℕ) (old : List ℕ) (q : ℕ) (new : List ℕ) : Type 0 where
-  pub retagged : Retagged old new
-  pub tags : (j : ℕ) → from ≤ j → j < q → tag_at new j ≡ tag j
-
-pub tagged_start : (from : ℕ) (tag : ℕ → ℕ) (m : List ℕ) → TaggedTo from tag m from m
-tagged_start from tag m = record { retagged = retagged_same m; tags = λ j l h. absurd (omega arith) }
 
 pub tagged_next : (from : ℕ) (tag : ℕ → ℕ) (old : List ℕ) (q : ℕ) (new : List ℕ) (byte : ℕ) → q < length new → byte / 128 ≡ history_at new q → byte % 128 ≡ tag q
     → TaggedTo from tag old q new → TaggedTo from tag old (q + 1) (set new q byte)
@@ -62,30 +58,36 @@ tagged_next from tag old q new byte l h e t = record {
     here : (j : ℕ) → j ≡ q → tag_at (set new q byte) j ≡ tag j
     here j s = rw (s, get_or-set_same new q byte 0 l) e
 
-pub bit_small : (b : Bool) → bit b < 128
-bit_small true = omega arith
-bit_small false = omega arith
-
 -- ---- how many bytes from a position on have the tag
 
 abbrev pub tagged_from : List ℕ → (from tag : ℕ) → ℕ → Bool
 tagged_from m from tag i = eqb (tag_at m (from + i)) tag
 
-module _ (m : List ℕ) (from tag q : ℕ) (l : from ≤ q) where
-  place : from + (q - from) ≡ q
-  place = omega arith
+tag_found : (m : List ℕ) (from tag q : ℕ) → from ≤ q → (to : ℕ) → q < to → tag_at m q ≡ tag → any_to (tagged_from m from tag) (to - from) ≡ true
+tag_found m from tag q l to h e =
+    let place : from + (q - from) ≡ q = omega arith in
+    any_intro (tagged_from m from tag) (to - from) (q - from) (omega arith) (rw place (eq-eqb _ _ e))
 
-  next : q + 1 - from ≡ q - from + 1
-  next = omega arith
+-- one byte more of those that are counted
+counted_more : (m : List ℕ) (from tag k : ℕ) → k < length (drop from m)
+    → count_by (λ b. eqb (b % 128) tag) (take k (drop from m)) ≡ count_to (tagged_from m from tag) k
+    → count_by (λ b. eqb (b % 128) tag) (take (k + 1) (drop from m)) ≡ count_to (tagged_from m from tag) (k + 1)
+counted_more m from tag k l h = by_test (tagged_from m from tag k) yes no
+  where
+    byte : get_or (drop from m) k 0 ≡ get_or m (from + k) 0
+    byte = get_or-drop from m k 0
 
-  pub tag_yes : (c : ℕ) → c ≡ count_to (tagged_from m from tag) (q - from) → tag_at m q ≡ tag → c + 1 ≡ count_to (tagged_from m from tag) (q + 1 - from)
-  tag_yes c h e = rw next (count_yes (tagged_from m from tag) (q - from) c (rw place (eq-eqb _ _ e)) h)
+    yes : tagged_from m from tag k ≡ true → count_by (λ b. eqb (b % 128) tag) (take (k + 1) (drop from m)) ≡ count_to (tagged_from m from tag) (k + 1)
+    yes e = count_by_more_yes (λ b. eqb (b % 128) tag) (drop from m) k 0 l (rw byte e) ∙ ap (λ c. c + 1) h ∙ count_yes (tagged_from m from tag) k _ e refl
 
-  pub tag_no : (c : ℕ) → c ≡ count_to (tagged_from m from tag) (q - from) → (tag_at m q ≡ tag → ⊥) → c ≡ count_to (tagged_from m from tag) (q + 1 - from)
-  tag_no c h d = rw next (count_no (tagged_from m from tag) (q - from) c (rw place (ne_eqb _ _ d)) h)
+    no : tagged_from m from tag k ≡ false → count_by (λ b. eqb (b % 128) tag) (take (k + 1) (drop from m)) ≡ count_to (tagged_from m from tag) (k + 1)
+    no e = count_by_more_no (λ b. eqb (b % 128) tag) (drop from m) k 0 l (rw byte e) ∙ h ∙ count_no (tagged_from m from tag) k _ e refl
 
-  tag_found : (to : ℕ) → q < to → tag_at m q ≡ tag → any_to (tagged_from m from tag) (to - from) ≡ true
-  tag_found to h e = any_intro (tagged_from m from tag) (to - from) (q - from) (omega arith) (rw place (eq-eqb _ _ e))
+-- a part's bytes counted, as places are
+counted_from : (m : List ℕ) (from tag k : ℕ) → from + k ≤ length m → count_by (λ b. eqb (b % 128) tag) (take k (drop from m)) ≡ count_to (tagged_from m from tag) k
+counted_from m from tag zero l = sym (count_start (tagged_from m from tag))
+counted_from m from tag (suc k) l =
+    rw (← add-one k) (counted_more m from tag k (omega (arith, length-drop from m)) (counted_from m from tag k (omega arith)))
 
 -- counted once: whether there is one at all
 one_of : (c : ℕ) → min c 1 ≡ bit (ltb 0 c)
@@ -112,12 +114,6 @@ window_test c p b e l h = both_ways _ _ there (λ t. let q : c ≡ p = eqb-true 
         high : ltb c b ≡ false → ltb c e ≡ false → eqb c p ≡ true
         high f g = absurd (let z : 0 ≡ p - b + 1 = eqb-true _ _ (rw (f, g) at t) in omega arith)
 
--- and no tag is above 127 in a window of 127
-pub window_small : (c b e : ℕ) → e ≤ b + 127 → window_tag c b e < 128
-window_small c b e l =
-    by_test (ltb c b) (λ f. rw f (omega arith))
-    (λ f. by_test (ltb c e) (λ g. rw (f, g) (omega (arith, ltb-false c b f, ltb-true c e g))) (λ g. rw (f, g) (omega arith)))
-
 -- author a has a vertex of round k with the tag
 abbrev pub author_tagged : List Vertex → (k tag : ℕ) → List ℕ → ℕ → Bool
 author_tagged vs k tag m a = any_to (λ q. (eqb (at vs q).round k and eqb (at vs q).author a) and eqb (tag_at m q) tag) (length vs)
@@ -126,15 +122,13 @@ author_tagged vs k tag m a = any_to (λ q. (eqb (at vs q).round k and eqb (at vs
 
 module _ {n : ℕ} {vs : List Vertex} (A : Accepted n vs) where
   -- all bytes of the round are tagged
-  pub tagged_end : (k k' from : ℕ) (tag : ℕ → ℕ) (old new : List ℕ) (q : ℕ) → k' ≡ k + 1 → from ≡ start_of vs k 0 → start_of vs k' 0 ≤ q
-      → TaggedTo from tag old q new
+  pub tagged_end : (k from to : ℕ) (tag : ℕ → ℕ) (old new : List ℕ) → from ≡ start_of vs k 0 → to ≡ start_of vs (k + 1) 0 → TaggedTo from tag old to new
       → Tagged vs k tag old new
-  tagged_end k k' from tag old new q u f l s = record {
+  tagged_end k from to tag old new f t s = record {
     retagged = s.retagged;
     tags = λ j h e.
         let i = round_in A k j (record { within = h; round = e }) in
-        let up : j < start_of vs k' 0 = rw u i.up_to in
-        s.tags j (omega (arith, f, i.from_on)) (omega arith);
+        s.tags j (omega (arith, f, i.from_on)) (omega (arith, t, i.up_to));
   }
 
   -- its vertices stand side by side
@@ -157,10 +151,14 @@ module _ {n : ℕ} {vs : List Vertex} (A : Accepted n vs) where
           (record { within = l; round = eqb-true _ _ (and_left _ _ (and_left _ _ e)); author = eqb-true _ _ (and_right _ _ (and_left _ _ e)) }) in
           tag_found m s tag q i.from_on (start_of vs k (a + 1)) i.up_to (eqb-true _ _ (and_right _ _ e))
 
-  -- and they count once
-  pub author_once : (k tag a : ℕ) (m : List ℕ)
-      → min (count_to (tagged_from m (start_of vs k a) tag) (start_of vs k (a + 1) - start_of vs k a)) 1 ≡ bit (author_tagged vs k tag m a)
-  author_once k tag a m = one_of _ ∙ ap bit (sym (any_count _ _) ∙ author_tagged_lem k tag a m)
+  -- and the bytes of its part, counted once
+  pub author_once : (k tag a : ℕ) (m : List ℕ) (from to c : ℕ) → length vs ≤ length m → from ≡ start_of vs k a → to ≡ start_of vs k (a + 1)
+      → c ≡ count_by (λ b. eqb (b % 128) tag) (take (to - from) (drop from m))
+      → min c 1 ≡ bit (author_tagged vs k tag m a)
+  author_once k tag a m from to c room f t e =
+      let rise = start_mono A k a k (a + 1) (inr (refl, omega arith)) in
+      let part = counted_from m from tag (to - from) (omega (arith, f, t, rise, room, start_bound A k (a + 1))) in
+      rw (e, part, f, t) (one_of _ ∙ ap bit (sym (any_count _ _) ∙ author_tagged_lem k tag a m))
 
   -- ---- the counts of the direct rules
 

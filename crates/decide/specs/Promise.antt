@@ -1,9 +1,10 @@
 -- What a call of `decide` promises, on all inputs: its answer, and what the cells and the taken bytes hold then.
 -- Assumes nothing.
 use Rattle.std.specs.Prelude.{ℕ, ◌≡◌, List, map}
-use Rattle.rules.specs.declared.Checked.{Checked}
+use Rattle.std.specs.declared.result.Result.{Result}
+use Rattle.rules.specs.declared.Refusal.{Refusal}
 use Rattle.rules.specs.Record.{first, records, vertices}
-use Rattle.rules.specs.Refusals.{Told, gives, refused, check_tells}
+use Rattle.rules.specs.Refusals.{Told, gives, refused, tells}
 use Rattle.rules.specs.Decision.{cell}
 use Rattle.rules.specs.Decide.{box_setting, decisions}
 use Rattle.rules.specs.Settlement.{Buffers, lent_check, written_over}
@@ -19,7 +20,7 @@ unfoldable pub taken_after : Told (Unit {0}) → (t taken : List ℕ) → List �
 taken_after (gives a) t taken = bytes_over (λ p. 0) (records first t) taken
 taken_after (refused number values) t taken = taken
 
-pub record DecidesTo (n : ℕ) (t : List ℕ) (before : Buffers) (r : Checked) (cells taken : List ℕ) : Type 0 where
-  pub answer : check_tells r ≡ lent_check (box_setting n) first n t before
-  pub in_cells : cells ≡ cells_after (check_tells r) n t before.cells
-  pub in_taken : taken ≡ taken_after (check_tells r) t before.taken
+pub record DecidesTo (n : ℕ) (t : List ℕ) (before : Buffers) (r : Result (Unit {0}) Refusal) (cells taken : List ℕ) : Type 0 where
+  pub answer : tells r ≡ lent_check (box_setting n) first n t before
+  pub in_cells : cells ≡ cells_after (tells r) n t before.cells
+  pub in_taken : taken ≡ taken_after (tells r) t before.taken

@@ -19,6 +19,11 @@ pub record Retagged (old new : List ℕ) : Type 0 where
   pub same_length : length new ≡ length old
   pub history_kept : (q : ℕ) → history_at new q ≡ history_at old q
 
+-- The bytes from one position up to another have their tags.
+pub record TaggedTo (from : ℕ) (tag : ℕ → ℕ) (old : List ℕ) (to : ℕ) (new : List ℕ) : Type 0 where
+  pub retagged : Retagged old new
+  pub tags : (q : ℕ) → from ≤ q → q < to → tag_at new q ≡ tag q
+
 -- Every vertex of the round k has its tag.
 pub record Tagged (vs : List Vertex) (k : ℕ) (tag : ℕ → ℕ) (old new : List ℕ) : Type 0 where
   pub retagged : Retagged old new

@@ -1,107 +1,100 @@
 // The direct rules.
-ghost use Rattle.std.specs.Prelude.{◌≡◌, false, cond, ltb, ◌+◌, ◌-◌, ◌≤◌, ◌<◌};
-ghost use Rattle.folds.specs.Folds.{first_to};
+ghost use Rattle.std.specs.Prelude.{◌≡◌, false, cond, ◌+◌, ◌-◌, ◌≤◌, ◌<◌, length, MatchOption};
 ghost use Rattle.rules.specs.Authors.{leader};
-ghost use Rattle.rules.specs.Record.{first, records, at};
-ghost use Rattle.decide.specs.Ready.{vertices_of, last_round, Ready};
+ghost use Rattle.decide.specs.Ready.{vertices_of, records_of};
 ghost use Rattle.rules.specs.Support.{direct_commit, direct_skip};
-ghost use Rattle.rules.specs.Decision.{cell};
 ghost use Rattle.rules.specs.Decide.{box_setting};
+ghost use Rattle.stops.specs.Cells.{says};
 ghost use Rattle.decide.specs.Work.{Retagged, Window};
-ghost use Rattle.decide.specs.Cells.{first_in, directly};
+ghost use Rattle.decide.specs.Cells.{first_in, FailTo, FirstPass, Found, committed_or, directly};
 
+use crate::passed::{Passed, Slot};
 use crate::range::begin;
 use crate::tags::{authors_tagged, tag_blank, tag_certified};
-use tally::{quorum_of, smaller};
+use stops::Cell;
+use tally::quorum_of;
 
-// The first vertex from b up to e that a quorum certifies, or e. The tags say who certifies which.
-fn commit_in(n: u8, table: &[u8], round: u32, leader: u8, b: usize, e: usize, work: &[u8]) -> usize
-    requires ready { Ready first n table.now work.now }
-    requires round_le_last_round { round ≤ last_round }
-    requires window { Window n (vertices_of table.now) round leader b e work.now }
-    ensures { result ≡ b + first_to (λ i. direct_commit n (vertices_of table.now) (at (vertices_of table.now) (b + i))) (e - b) }
+// The first vertex from b up to e that a quorum certifies. The tags say who certifies which.
+fn commit_in(t: Passed, s: Slot, b: usize, e: usize, work: &[u8]) -> Option<usize>
+    requires room { records_of t.table.now ≤ length work.now }
+    requires window { Window t.n (vertices_of t.table.now) s.round s.leader b e work.now }
+    ensures { MatchOption result (FailTo (vertices_of t.entry.table.now) (direct_commit t.entry.n (vertices_of t.entry.table.now)) b e)
+        (λ p. FirstPass (vertices_of t.entry.table.now) (direct_commit t.entry.n (vertices_of t.entry.table.now)) b e p) }
 {
-    let q = quorum_of(n);
-    let mut p = b;
-    while p < e {
+    let q = quorum_of(t.n);
+    for p in b..e {
         let tag = (p - b) as u8 + 1;
-        if q <= authors_tagged(n, table, round + 2, tag, work) {
-            return p;
+        if q <= authors_tagged(t, s.round + 2, tag, work) {
+            return Some(p);
         }
-        p += 1;
     }
-    p
+    None
 }
 
-// The lowest-mark vertex of the slot that is a direct commit, or the number of records. A tag tells 127 vertices apart, so as many are
-// looked at in one go.
-fn direct_commit(n: u8, table: &[u8], round: u32, leader: u8, work: &mut [u8]) -> usize
-    requires ready { Ready first n table.now work.old }
-    requires round_le_last_round { round ≤ last_round }
-    requires leader_lt_n { leader < n }
-    ensures value { result ≡ first_in (vertices_of table.now) round leader (direct_commit n (vertices_of table.now)) }
+// The lowest-mark vertex of the slot that is a direct commit. A tag tells 127 vertices apart, so as many are looked at in one go.
+#[tactic(auto, using(crate::proofs::Ranges::start_bound))]
+fn direct_commit(t: Passed, s: Slot, work: &mut [u8]) -> Option<usize>
+    requires room { records_of t.table.now ≤ length work.old }
+    requires leader_lt_n { s.leader < t.n }
+    ensures value { Found result
+        (first_in (vertices_of t.entry.table.now) s.round s.leader (direct_commit t.entry.n (vertices_of t.entry.table.now)))
+        (records_of t.entry.table.now) }
     ensures retagged { Retagged work.old work.new }
 {
-    let end = begin(n, table, round, leader + 1);
-    let mut b = begin(n, table, round, leader);
-    while b < end {
-        let e = smaller(end, b + 127);
-        tag_certified(n, table, round, leader, b, e, work);
-        let p = commit_in(n, table, round, leader, b, e, work);
-        if p < e {
-            return p;
+    let end = begin(t, s.round, s.leader + 1);
+    for b in (begin(t, s.round, s.leader)..end).step_by(127) {
+        let e = end.min(b + 127);
+        tag_certified(t, s, b, e, work);
+        if let Some(p) = commit_in(t, s, b, e, work) {
+            return Some(p);
         }
-        b = e;
     }
-    record::records_of(table)
+    None
 }
 
-fn direct_skip(n: u8, table: &[u8], round: u32, leader: u8, work: &mut [u8]) -> bool
-    requires ready { Ready first n table.now work.old }
-    requires round_le_last_round { round ≤ last_round }
-    ensures value { result ≡ direct_skip n (vertices_of table.now) round leader }
+#[tactic(auto, using(crate::proofs::Tagging::skip_tagged))]
+fn direct_skip(t: Passed, s: Slot, work: &mut [u8]) -> bool
+    requires room { records_of t.table.now ≤ length work.old }
+    ensures value { result ≡ direct_skip t.entry.n (vertices_of t.entry.table.now) s.round s.leader }
     ensures retagged { Retagged work.old work.new }
 {
-    tag_blank(n, table, round, leader, work);
-    quorum_of(n) <= authors_tagged(n, table, round + 1, 1, work)
+    tag_blank(t, s, work);
+    quorum_of(t.n) <= authors_tagged(t, s.round + 1, 1, work)
 }
 
-// Direct skip, tried only if there is no direct commit: p is where that stands, or the number of records.
-fn skip_unless(n: u8, table: &[u8], round: u32, leader: u8, p: usize, work: &mut [u8]) -> bool
-    requires ready { Ready first n table.now work.old }
-    requires round_le_last_round { round ≤ last_round }
-    ensures value { result ≡ cond (ltb p (records first table.now)) false (direct_skip n (vertices_of table.now) round leader) }
+// Direct skip, tried only if there is no direct commit. By itself, so that an edit that tries it always changes one word (DECISIONS 53).
+fn skip_unless(t: Passed, s: Slot, committed: bool, work: &mut [u8]) -> bool
+    requires room { records_of t.table.now ≤ length work.old }
+    ensures value { result ≡ cond committed false (direct_skip t.entry.n (vertices_of t.entry.table.now) s.round s.leader) }
     ensures retagged { Retagged work.old work.new }
 {
-    if p < record::records_of(table) {
+    if committed {
         return false;
     }
-    direct_skip(n, table, round, leader, work)
+    direct_skip(t, s, work)
 }
 
-// The cell of a round committed with the vertex at p, where p is a position, and else `other`.
-pub(crate) fn cell_of(p: usize, k: usize, other: u32) -> u32
-    requires { k ≤ 4096 }
-    ensures { result ≡ cond (ltb p k) (2 + p) other }
+// Committed with the vertex that is found, and else `other`.
+pub(crate) fn cell_of(found: Option<usize>, other: Cell) -> Cell
+    ensures { says result ≡ committed_or found (says other) }
 {
-    if p < k {
-        return 2 + p as u32;
+    match found {
+        Some(position) => Cell::Committed { position },
+        None => other,
     }
-    other
 }
 
-// The cell of a round by the direct rules; 0 if neither applies.
-pub(crate) fn directly(n: u8, table: &[u8], round: u32, leads: u8, work: &mut [u8]) -> u32
-    requires ready { Ready first n table.now work.old }
-    requires round_le_last_round { round ≤ last_round }
-    requires round_nonzero { 0 < round }
-    requires leads_value { leads ≡ leader n round }
-    ensures value { result ≡ cell (directly (box_setting n) n (vertices_of table.now) (round - 1)) }
+// What the direct rules decide of a round; undecided if neither applies.
+#[tactic(auto, using(crate::proofs::InCells::leader_low))]
+pub(crate) fn directly(t: Passed, s: Slot, work: &mut [u8]) -> Cell
+    requires room { records_of t.table.now ≤ length work.old }
+    requires leads { s.leader ≡ leader t.n s.round }
+    ensures value { says result ≡ directly (box_setting t.entry.n) t.entry.n (vertices_of t.entry.table.now) (s.round - 1) }
     ensures retagged { Retagged work.old work.new }
 {
-    let p = direct_commit(n, table, round, leads, work);
-    if skip_unless(n, table, round, leads, p, work) {
-        return 1;
+    let found = direct_commit(t, s, work);
+    if skip_unless(t, s, found.is_some(), work) {
+        return Cell::Skipped;
     }
-    cell_of(p, record::records_of(table), 0)
+    cell_of(found, Cell::Undecided)
 }

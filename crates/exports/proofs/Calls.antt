@@ -9,20 +9,17 @@ use lib.ListN.{get_or}
 use denote.Ref.{Bor}
 use Rattle.rules.specs.declared.Name.{Name}
 use Rattle.rules.specs.declared.Refusal.{Refusal}
-use Rattle.rules.specs.declared.Checked.{Checked}
-use Rattle.rules.specs.declared.Checked.TheVariants as checked
-use Rattle.rules.specs.declared.LookupAnswer.{LookupAnswer}
-use Rattle.rules.specs.declared.LookupAnswer.TheVariants as answer
-use Rattle.rules.specs.declared.Outcome.{Outcome}
-use Rattle.rules.specs.declared.Outcome.TheVariants as outcome
+use Rattle.std.specs.declared.result.Result.{Result}
+use Rattle.std.specs.declared.result.Result.TheVariants.{Ok, Err}
+use Rattle.rules.specs.declared.Counts.{Counts}
 use Rattle.rules.specs.Record.{first}
-use Rattle.rules.specs.Refusals.{row_of, refused, check_tells, lookup_tells, outcome_tells}
+use Rattle.rules.specs.Refusals.{row_of, refused, tells}
 use Rattle.rules.specs.Lookup.{lookup_begin, lookup_length}
 use Rattle.rules.proofs.Refusals.{one_value, number_above, refusal_unique}
 use Rattle.record.specs.Part.{PartOf}
-use Rattle.exports.specs.declared.Answer.{Answer}
-use Rattle.exports.specs.declared.Part.{Part}
-use Rattle.exports.specs.declared.SettledNumbers.{SettledNumbers}
+use Rattle.exports.specs.declared.answers.Answer.{Answer}
+use Rattle.exports.specs.declared.answers.Part.{Part}
+use Rattle.exports.specs.declared.answers.SettledNumbers.{SettledNumbers}
 use Rattle.exports.specs.Answers.{answer_as, part_as, settled_as}
 
 -- no refusal has the number 0
@@ -39,27 +36,21 @@ number_told e = ap (λ (x : Answer). x.number) e
 position_told : {a b : Answer} → a ≡ b → a.position ≡ b.position
 position_told e = ap (λ (x : Answer). x.position) e
 
-pub check_fixed : (c d : Checked) → answer_as (check_tells c) ≡ answer_as (check_tells d) → c ≡ d
-check_fixed checked.Passed checked.Passed e = refl
-check_fixed checked.Passed (checked.Refused s) e = absurd (numbered_above s (sym (number_told e)))
-check_fixed (checked.Refused r) checked.Passed e = absurd (numbered_above r (number_told e))
-check_fixed (checked.Refused r) (checked.Refused s) e = ap checked.Refused (refusal_fixed r s (number_told e) (position_told e))
+pub answer_fixed : (c d : Result (Unit {0}) Refusal) → answer_as (tells c) ≡ answer_as (tells d) → c ≡ d
+answer_fixed (Ok a) (Ok b) e = refl
+answer_fixed (Ok a) (Err s) e = absurd (numbered_above s (sym (number_told e)))
+answer_fixed (Err r) (Ok b) e = absurd (numbered_above r (number_told e))
+answer_fixed (Err r) (Err s) e = ap Err (refusal_fixed r s (number_told e) (position_told e))
 
-pub answer_fixed : (c d : LookupAnswer) → answer_as (lookup_tells c) ≡ answer_as (lookup_tells d) → c ≡ d
-answer_fixed answer.Found answer.Found e = refl
-answer_fixed answer.Found (answer.Refused s) e = absurd (numbered_above s (sym (number_told e)))
-answer_fixed (answer.Refused r) answer.Found e = absurd (numbered_above r (number_told e))
-answer_fixed (answer.Refused r) (answer.Refused s) e = ap answer.Refused (refusal_fixed r s (number_told e) (position_told e))
-
-pub settled_fixed : (o u : Outcome) → settled_as (outcome_tells o) ≡ settled_as (outcome_tells u) → o ≡ u
-settled_fixed (outcome.Settled c) (outcome.Settled d) e =
+pub settled_fixed : (o u : Result Counts Refusal) → settled_as (tells o) ≡ settled_as (tells u) → o ≡ u
+settled_fixed (Ok c) (Ok d) e =
     ap
-    outcome.Settled
+    Ok
     (λ i. record { records = (e i).records; highest = (e i).highest; undecided = (e i).undecided; written = (e i).written; equivocators = (e i).equivocators })
-settled_fixed (outcome.Settled c) (outcome.Refused s) e = absurd (numbered_above s (sym (ap (λ (a : SettledNumbers). a.number) e)))
-settled_fixed (outcome.Refused r) (outcome.Settled d) e = absurd (numbered_above r (ap (λ (a : SettledNumbers). a.number) e))
-settled_fixed (outcome.Refused r) (outcome.Refused s) e =
-    ap outcome.Refused (refusal_fixed r s (ap (λ (a : SettledNumbers). a.number) e) (ap (λ (a : SettledNumbers). a.position) e))
+settled_fixed (Ok c) (Err s) e = absurd (numbered_above s (sym (ap (λ (a : SettledNumbers). a.number) e)))
+settled_fixed (Err r) (Ok d) e = absurd (numbered_above r (ap (λ (a : SettledNumbers). a.number) e))
+settled_fixed (Err r) (Err s) e =
+    ap Err (refusal_fixed r s (ap (λ (a : SettledNumbers). a.number) e) (ap (λ (a : SettledNumbers). a.position) e))
 
 -- r meets the promise of `lookup::lookup`, and p that of the export
 pub lookup_same : (n : ℕ) (t r : Bor (List ℕ)) (x : Name) (p : Part)

@@ -6,8 +6,12 @@ use mathlib.Core.Path.{◌≡◌, sym, ◌∙◌}
 use mathlib.Core.List.{List}
 use Rattle.rules.specs.Settlement.{Buffers, lent}
 use Rattle.rules.proofs.Only.{Only}
-use Rattle.exports.specs.declared.SettledNumbers.{SettledNumbers}
+use Rattle.exports.specs.declared.answers.SettledNumbers.{SettledNumbers}
 use Rattle.exports.specs.Answers.{SettlesAs}
+use Rattle.exports.proofs.answers.AnswerFromResultUnitRefusal.from.Kinds as answer_kinds
+use Rattle.exports.proofs.answers.AnswerFromResultUnitRefusal.from.Reads as answer
+use Rattle.exports.proofs.answers.SettledNumbersFromSettlement.from.Kinds as numbers_kinds
+use Rattle.exports.proofs.answers.SettledNumbersFromSettlement.from.Reads as numbers
 use Rattle.exports.proofs.record_box_check.Kinds as check_kinds
 use Rattle.exports.proofs.record_box_check.Reads as check
 use Rattle.exports.proofs.record_box_lookup.Kinds as lookup_kinds
@@ -39,3 +43,9 @@ pub settle_unique : Only 4 settle_kinds.ps settle_kinds.r
     × (lent e.1.1.0.now e.1.1.1.0.now e.1.1.1.1.0.now ≡ lent f.1.1.0.now f.1.1.1.0.now f.1.1.1.1.0.now))
     settle.Post
 settle_unique κs a x y e f p q = settles_once p q
+
+pub answer_unique : Only 0 answer_kinds.ps answer_kinds.r (λ κs x e y f. x ≡ y) answer.Post
+answer_unique κs a x y e f p q = p ∙ sym q
+
+pub numbers_unique : Only 0 numbers_kinds.ps numbers_kinds.r (λ κs x e y f. x ≡ y) numbers.Post
+numbers_unique κs a x y e f p q = p ∙ sym q

@@ -9,9 +9,9 @@ use Rattle.rules.specs.Refusals.{Told, gives, refused, number_of, position_of}
 use Rattle.rules.specs.Lookup.{lookup_begin, lookup_length}
 use Rattle.rules.specs.Decide.{box_setting}
 use Rattle.rules.specs.Settlement.{Buffers, settle}
-use Rattle.exports.specs.declared.Answer.{Answer}
-use Rattle.exports.specs.declared.Part.{Part}
-use Rattle.exports.specs.declared.SettledNumbers.{SettledNumbers}
+use Rattle.exports.specs.declared.answers.Answer.{Answer}
+use Rattle.exports.specs.declared.answers.Part.{Part}
+use Rattle.exports.specs.declared.answers.SettledNumbers.{SettledNumbers}
 
 abbrev pub answer_as : {A : Type 0} → Told A → Answer
 answer_as c = record { number = number_of c; position = position_of c }

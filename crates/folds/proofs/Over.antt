@@ -22,15 +22,15 @@ or_last false = refl
 
 -- ---- one element of a list that a function gives
 
-pub set_tabulate : (f g : ℕ → ℕ) (k x v : ℕ) → x < k → v ≡ g x → ((i : ℕ) → i < k → i ≢ x → f i ≡ g i) → set (tabulate f k) x v ≡ tabulate g k
-set_tabulate f g k x v l e h = ext_get_or 0 _ _ (simp (length-set, length_tabulate)) (λ i m. at i (rw (length-set, length_tabulate) at m) (compare i x))
+pub set_tabulate {ℓ} : {A : Type ℓ} (f g : ℕ → A) (k x : ℕ) (v : A) → x < k → v ≡ g x → ((i : ℕ) → i < k → i ≢ x → f i ≡ g i) → set (tabulate f k) x v ≡ tabulate g k
+set_tabulate f g k x v l e h = ext_get_or v _ _ (simp (length-set, length_tabulate)) (λ i m. at i (rw (length-set, length_tabulate) at m) (compare i x))
   where
-    other : (i : ℕ) → i < k → i ≢ x → get_or (set (tabulate f k) x v) i 0 ≡ get_or (tabulate g k) i 0
-    other i m d = get_or-set_other (tabulate f k) x i v 0 d ∙ get_or_tabulate f k i 0 m ∙ h i m d ∙ sym (get_or_tabulate g k i 0 m)
+    other : (i : ℕ) → i < k → i ≢ x → get_or (set (tabulate f k) x v) i v ≡ get_or (tabulate g k) i v
+    other i m d = get_or-set_other (tabulate f k) x i v v d ∙ get_or_tabulate f k i v m ∙ h i m d ∙ sym (get_or_tabulate g k i v m)
 
-    at : (i : ℕ) → i < k → (i < x) ⊎ ((i ≡ x) ⊎ (x < i)) → get_or (set (tabulate f k) x v) i 0 ≡ get_or (tabulate g k) i 0
+    at : (i : ℕ) → i < k → (i < x) ⊎ ((i ≡ x) ⊎ (x < i)) → get_or (set (tabulate f k) x v) i v ≡ get_or (tabulate g k) i v
     at i m (inl q) = other i m (λ w. omega arith)
-    at i m (inr (inl q)) = rw q (get_or-set_same (tabulate f k) x v 0 (rw length_tabulate l) ∙ e ∙ sym (get_or_tabulate g k x 0 l))
+    at i m (inr (inl q)) = rw q (get_or-set_same (tabulate f k) x v v (rw length_tabulate l) ∙ e ∙ sym (get_or_tabulate g k x v l))
     at i m (inr (inr q)) = other i m (λ w. omega arith)
 
 -- ---- bytes whose first k are what a function gives

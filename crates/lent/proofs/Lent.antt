@@ -9,9 +9,9 @@ use borrow.Author.Tests.{lt-ltb, le-ltb, ltb-false}
 use Rattle.folds.proofs.Tests.{or_left, or_right, or_false, or_neither}
 use Rattle.rules.specs.declared.Vertex.{Vertex}
 use Rattle.rules.specs.declared.Refusal.{Refusal}
-use Rattle.rules.specs.declared.Checked.{Checked}
-use Rattle.rules.specs.declared.Checked.TheVariants.{Refused}
-use Rattle.rules.specs.Refusals.{passed, refusal, refusal_tells, check_tells}
+use Rattle.std.specs.declared.result.Result.{Result}
+use Rattle.std.specs.declared.result.Result.TheVariants.{Err}
+use Rattle.rules.specs.Refusals.{passed, refusal, refusal_tells, tells}
 use Rattle.rules.specs.Record.{Edition, records, vertices}
 use Rattle.rules.specs.Check.{check}
 use Rattle.rules.specs.Decide.{Setting, highest}
@@ -51,7 +51,7 @@ module _ (C : Setting) (E : Edition) (n : ℕ) (t : List ℕ) (b : Buffers) wher
       sym (then_passed _ _ S.passes ∙ when_no _ _ (or_false _ _ (le-ltb _ _ S.cells) (or_false _ _ order taken)))
 
   -- the table's refusal is handed on
-  pub table_refused : {x : Checked} {r : Refusal} → check_tells x ≡ check E n t → x ≡ Refused r → refusal_tells r ≡ lent_check C E n t b
+  pub table_refused : {x : Result (Unit {0}) Refusal} {r : Refusal} → tells x ≡ check E n t → x ≡ Err r → refusal_tells r ≡ lent_check C E n t b
   unfolding lent_check
   table_refused e f = hands_on _ _ e f
 

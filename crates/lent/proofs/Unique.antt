@@ -8,4 +8,4 @@ use Rattle.lent.proofs.lent_check.Kinds as lent_check_kinds
 use Rattle.lent.proofs.lent_check.Reads as lent_check
 
 pub lent_check_unique : Only 4 lent_check_kinds.ps lent_check_kinds.r (λ κs x e y f. x ≡ y) lent_check.Post
-lent_check_unique κs a x y e f p q = refusals.check_unique x y (p ∙ sym q)
+lent_check_unique κs a x y e f p q = refusals.tells_unique x y (p ∙ sym q)

@@ -1,81 +1,43 @@
 -- A line that is put together piece by piece, and its copy in a lent buffer.
 -- Assumes nothing.
-use Prim.Native.Nat.{ℕ, ◌+◌, ◌-◌, ◌≤◌, ◌<◌}
+use Prim.Native.Nat.{ℕ, ◌+◌, ◌-◌, ◌≤◌}
 use mathlib.Core.Path.{◌≡◌, refl, sym, ap, ◌∙◌}
-use mathlib.Core.List.{List, [], ◌∷◌, ◌++◌, append_assoc}
-use native.Mathlib.Nat.{le_refl}
-use native.Mathlib.Numerals.{add-one}
+use mathlib.Core.List.{List, [], ◌∷◌, ◌++◌, append_assoc, append-nil, map}
 use native.Mathlib.Omega.{arith}
-use lib.ListN.{length, get_or, take, drop, set, length-append, length-drop}
-use lib.Seq.{length-take-le, take-suc, take_all, take-append_seam}
-use borrow.Author.Tests.{le-leb, lt-leb}
-use Rattle.folds.proofs.Lists.{put_next}
+use lib.ListN.{length, take, drop, length-append, length-drop}
+use lib.Seq.{length-take-le, take-append_seam}
+use borrow.Author.Tests.{le-leb}
 use Rattle.rules.specs.Program.{decimal, line}
-use Rattle.lines.specs.declared.Line.{Line}
-use Rattle.lines.specs.declared.Digits.{Digits}
+use Rattle.lines.specs.Lines.{spaced}
 use Rattle.lines.specs.Fills.{Fills}
-use Rattle.lines.specs.Text.{text_of, Room, Begun, Grown, Numbered, Spelled}
-
--- ---- the text
-
-pub text_length : {l : Line} → Room l 0 → length (text_of l) ≡ l.len
-unfolding text_of
-text_length {l} r = length-take-le l.len l.bytes (rw r.whole (omega arith))
-
-pub text_short : {l : Line} → Room l 0 → length (text_of l) ≤ 112
-text_short r = rw (text_length r) (omega (arith, r.left))
-
--- two pieces in turn are one
-pub grown_twice : {l m r : Line} {a b : List ℕ} → Grown l a m → Grown m b r → Grown l (a ++ b) r
-grown_twice {l} {m} {r} {a} {b} p q = record {
-  whole = q.whole;
-  len = simp length-append (omega arith);
-  text = q.text ∙ rw p.text (append_assoc (text_of l) a b);
-}
-
--- the part of the array that holds a number's digits is one piece
-pub numbered : {l r : Line} {x : ℕ} {d : Digits} → Spelled x d → Grown l (32 ∷ take (20 - d.start) (drop d.start d.bytes)) r → Numbered l x r
-numbered {l} {r} {x} {d} p q =
-    let n : length (drop d.start d.bytes) ≡ 20 - d.start = rw (length-drop, p.whole) in
-    let e : take (20 - d.start) (drop d.start d.bytes) ≡ decimal x =
-    take_all (20 - d.start) (drop d.start d.bytes) (rw n (le_refl (20 - d.start))) ∙ p.digits in
-    let k : length (decimal x) ≡ 20 - d.start = rw p.digits at n in
-    let g : Grown l (32 ∷ decimal x) r = rw e at q in
-    record { grown = g; few = omega (arith, g.len) }
 
 -- ---- the line
 
-line_more : (w x : List ℕ) (xs : List (List ℕ)) → line w (x ∷ xs) ≡ line (w ++ 32 ∷ x) xs
+-- With a word more put at its end, what follows is as before.
+pub word_put : (l w : List ℕ) {r : List ℕ} → r ≡ l ++ 32 ∷ w → (ws : List (List ℕ)) → line l (w ∷ ws) ≡ line r ws
 unfolding line
-line_more w x [] = sym (append_assoc w (32 ∷ x) (10 ∷ []))
-line_more w x (y ∷ ys) = sym (append_assoc w (32 ∷ x) (32 ∷ line y ys))
+word_put l w e [] = rw e (sym (append_assoc l (32 ∷ w) (10 ∷ [])))
+word_put l w e (v ∷ vs) = rw e (sym (append_assoc l (32 ∷ w) (32 ∷ line v vs)))
 
--- With its first word put together, and then one word more. What follows is as before.
-pub first_word : {l : Line} {b : ℕ} → Begun b l → (xs : List (List ℕ)) → line (b ∷ []) xs ≡ line (text_of l) xs
-first_word p xs = rw p.text
+-- The same with numbers.
+pub numbers_put : (l xs : List ℕ) {r : List ℕ} → r ≡ l ++ spaced xs → (ws : List (List ℕ)) → line l (map decimal xs ++ ws) ≡ line r ws
+numbers_put l [] e ws = rw (e, append-nil l)
+numbers_put l (x ∷ xs) e ws =
+    let first : line l (decimal x ∷ (map decimal xs ++ ws)) ≡ line (l ++ 32 ∷ decimal x) (map decimal xs ++ ws) = word_put l (decimal x) refl _ in
+    first ∙ numbers_put (l ++ 32 ∷ decimal x) xs (e ∙ sym (append_assoc l (32 ∷ decimal x) (spaced xs))) ws
 
-pub next_word : {l r : Line} {x : List ℕ} → Grown l (32 ∷ x) r → (xs : List (List ℕ)) → line (text_of l) (x ∷ xs) ≡ line (text_of r) xs
-next_word {l} {r} {x} p xs = rw p.text (line_more (text_of l) x xs)
-
--- When no word follows, the line ends. A buffer that it fills is filled by any bytes that are this line.
-pub last_word : (l : Line) {bytes old new : List ℕ} {r : ℕ} → bytes ≡ line (text_of l) [] → Fills (text_of l ++ 10 ∷ []) old new r → Fills bytes old new r
-unfolding line
-last_word l e p = rw e p
+-- The same where they are the last.
+pub numbers_last : (l xs : List ℕ) {r : List ℕ} → r ≡ l ++ spaced xs → line l (map decimal xs) ≡ line r []
+numbers_last l xs e =
+    let all : map decimal xs ++ [] ≡ map decimal xs = append-nil (map decimal xs) in
+    rw (← all) (numbers_put l xs e [])
 
 -- ---- the buffer
 
--- what is filled by a line with a piece more is filled by its text and that piece
-pub filled_by : {l m : Line} {w old new : List ℕ} {r : ℕ} → Grown l w m → Fills (text_of m) old new r → Fills (text_of l ++ w) old new r
-filled_by p q = rw p.text at q
-
--- one byte more is copied
-pub copy_next : (b d : List ℕ) (i : ℕ) → i < length b → i < length d → set (take i b ++ drop i d) i (get_or b i 0) ≡ take (i + 1) b ++ drop (i + 1) d
-copy_next b d i h k =
-    let e : take (i + 1) b ≡ take i b ++ get_or b i 0 ∷ [] = rw (add-one i) (take-suc b i 0 h) in
-    rw e (put_next (take i b) d i (get_or b i 0) 0 (length-take-le i b (omega arith)) k)
-
-pub fills_not : (bytes old : List ℕ) → length bytes ≤ 112 → length old < length bytes → Fills bytes old old 0
-fills_not bytes old s h = let e = lt-leb _ _ h in record { answer = rw e; buffer = rw e; short = s; within = omega arith; part = refl }
+-- A buffer that a line fills, with its end put, is filled by any bytes that are this line.
+pub fills_line : (l : List ℕ) {bytes old new : List ℕ} {r : ℕ} → bytes ≡ line l [] → Fills (l ++ 10 ∷ []) old new r → Fills bytes old new r
+unfolding line
+fills_line l e p = rw e p
 
 pub fills_so : (bytes old new : List ℕ) (r : ℕ) → length bytes ≤ 112 → length bytes ≡ r → r ≤ length old → new ≡ bytes ++ drop r old → Fills bytes old new r
 fills_so bytes old new r s n h p =

@@ -1,8 +1,8 @@
 -- The lines whose definition in `rules` takes a table or a vertex, here by the numbers that they show.
 -- Assumes nothing.
-use Rattle.std.specs.Prelude.{ℕ, List, [], ◌∷◌}
+use Rattle.std.specs.Prelude.{ℕ, List, [], ◌∷◌, flat_map}
 use Rattle.rules.specs.declared.Name.{Name}
-use Rattle.rules.specs.Program.{bytes_of, decimal, line}
+use Rattle.rules.specs.Program.{bytes_of, decimal, line, line_x, line_s, line_r}
 
 -- `R r word`
 unfoldable pub line_word : ℕ → List ℕ → List ℕ
@@ -23,3 +23,12 @@ line_committed r author mark = line (bytes_of "R") (decimal r ∷ bytes_of "comm
 -- `V round author mark`
 unfoldable pub line_named : Name → List ℕ
 line_named x = line (bytes_of "V") (decimal x.round ∷ decimal x.author ∷ decimal x.mark ∷ [])
+
+-- Numbers with a space before each.
+abbrev pub spaced : List ℕ → List ℕ
+spaced xs = flat_map (λ x. 32 ∷ decimal x) xs
+
+-- One name that opens the definitions of the lines.
+unfoldable pub lines_open : Unit {0}
+unfolding bytes_of line_x line_s line_r line_word line_undecided line_skipped line_committed line_named
+lines_open = tt

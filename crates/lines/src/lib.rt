@@ -1,195 +1,139 @@
-// The bytes of each printed line. Nothing is printed here: a line is put together by value and then copied into a buffer that the caller lends.
+// The bytes of each printed line. Nothing is printed here: a line is put together in a string of fixed size and then copied into a buffer that the caller lends.
 #![tactic(auto)]
 
-ghost use Rattle.std.specs.Prelude.{◌≡◌, [], ◌∷◌, ◌++◌, ◌+◌, ◌<◌, ◌≤◌, length};
+ghost use Rattle.std.specs.Prelude.{◌≡◌, [], ◌∷◌, ◌++◌, ◌+◌, ◌*◌, ◌≤◌, length, map};
+ghost use Rattle.arrayvec.specs.ArrayString.{array_string_len};
 ghost use Rattle.rules.specs.Refusals.{row_of};
-ghost use Rattle.rules.specs.Program.{line_x, line_s};
-ghost use Rattle.lines.specs.Lines.{line_word, line_undecided, line_skipped, line_committed, line_named};
+ghost use Rattle.rules.specs.Program.{bytes_of, decimal, line, line_x, line_s};
+ghost use Rattle.lines.specs.Lines.{spaced, line_undecided, line_skipped, line_committed, line_named};
 ghost use Rattle.lines.specs.Fills.{Fills};
-ghost use Rattle.lines.specs.Text.{text_of, Room, Begun, Grown, Numbered, Spelled};
 
+use arrayvec::ArrayString;
+use refusals::Numbered;
 use rules::{Counts, Name, Refusal};
 
-// A line as far as it is put together: the first `len` bytes. The longest has a letter, five numbers of up to 20 digits with a space before
-// each, and its end: 107 bytes.
-#[derive(Clone, Copy)]
-struct Line {
-    bytes: [u8; 112],
-    len: usize,
-}
-
-// The digits of a number: the bytes from `start` on.
-#[derive(Clone, Copy)]
-struct Digits {
-    bytes: [u8; 20],
-    start: usize,
-}
+// A line as far as it is put together. The longest has a letter, five numbers of up to 20 digits with a space before each, and its end:
+// 107 bytes.
+type Line = ArrayString<112>;
 
 // ---- a line is put together
 
-// Its first letter.
-fn begun(letter: u8) -> Line
-    ensures { Begun letter result }
-{
-    let mut bytes = [0u8; 112];
-    bytes[0] = letter;
-    Line { bytes, len: 1 }
-}
-
-// More bytes at its end.
-fn with_bytes(l: Line, w: &[u8]) -> Line
-    requires { Room l (length w.now) }
-    ensures { Grown l w.now result }
-{
-    let at = l.len;
-    let mut bytes = l.bytes;
-    let mut i: usize = 0;
-    while i < w.len() {
-        bytes[at + i] = w[i];
-        i += 1;
-    }
-    Line {
-        bytes,
-        len: at + w.len(),
-    }
-}
-
-fn digit_of(d: u64) -> u8
-    requires { d < 10 }
-    ensures { result ≡ 48 + d }
-{
-    48 + d as u8
-}
-
-// The last digit comes first, so they are written from the end of the array.
-fn digits_of(x: u64) -> Digits
-    ensures { Spelled x result }
-{
-    let mut bytes = [0u8; 20];
-    bytes[19] = digit_of(x % 10);
-    let mut start: usize = 19;
-    let mut front = x / 10;
-    while 0 < front {
-        start -= 1;
-        bytes[start] = digit_of(front % 10);
-        front /= 10;
-    }
-    Digits { bytes, start }
-}
-
 // A space and a word more.
-fn with_word(l: Line, w: &[u8]) -> Line
-    requires { Room l (1 + length w.now) }
-    ensures { Grown l (32 ∷ w.now) result }
+fn put_word(l: &mut Line, word: &str)
+    requires { array_string_len l.old + 1 + length word.now ≤ 112 }
+    ensures { l.new.bytes ≡ l.old.bytes ++ 32 ∷ word.now }
 {
-    with_bytes(with_bytes(l, b" "), w)
+    l.push_str(" ");
+    l.push_str(word);
 }
 
-// A space and a number more.
-fn with_number(l: Line, x: u64) -> Line
-    requires { Room l 21 }
-    ensures { Numbered l x result }
+// A space and a number more, for each in turn. Not by `write!`: it promises what is written where it succeeds, and not that it does.
+fn put_numbers(l: &mut Line, numbers: &[u64])
+    requires { array_string_len l.old + 21 * length numbers.now ≤ 112 }
+    ensures bytes { l.new.bytes ≡ l.old.bytes ++ spaced numbers.now }
+    ensures few { array_string_len l.new ≤ array_string_len l.old + 21 * length numbers.now }
 {
-    let d = digits_of(x);
-    let bytes = d.bytes;
-    let start = d.start;
-    with_word(l, &bytes[start..])
+    for x in numbers {
+        put_word(l, itoa::Buffer::new().format(*x));
+    }
 }
 
 // ---- a line is handed over
 
-// The line in the buffer, if it fits.
-fn fill(l: Line, out: &mut [u8]) -> usize
-    requires { Room l 0 }
-    ensures { Fills (text_of l) out.old out.new result }
+// The line with its end in the buffer, and its length; 0 if it does not fit. No `Option`: so says `Fills`.
+fn ended(mut l: Line, out: &mut [u8]) -> usize
+    requires { array_string_len l + 1 ≤ 112 }
+    ensures { Fills (l.bytes ++ 10 ∷ []) out.old out.new result }
 {
-    let n = l.len;
+    l.push_str("\n");
+    let n = l.len();
     if out.len() < n {
         return 0;
     }
-    let bytes = l.bytes;
-    let mut i: usize = 0;
-    while i < n {
-        out[i] = bytes[i];
-        i += 1;
-    }
+    out[..n].copy_from_slice(l.as_str().as_bytes());
     n
-}
-
-// The same with the end of the line.
-fn ended(l: Line, out: &mut [u8]) -> usize
-    requires { Room l 1 }
-    ensures { Fills (text_of l ++ 10 ∷ []) out.old out.new result }
-{
-    fill(with_bytes(l, b"\n"), out)
 }
 
 // ---- the lines
 
+// `letter numbers`
+fn line_numbers(letter: &str, numbers: &[u64], out: &mut [u8]) -> usize
+    requires letter { length letter.now ≤ 1 }
+    requires few { length numbers.now ≤ 5 }
+    ensures { Fills (line letter.now (map decimal numbers.now)) out.old out.new result }
+{
+    let mut l = Line::new();
+    l.push_str(letter);
+    put_numbers(&mut l, numbers);
+    ended(l, out)
+}
+
 // `X number position`
+#[tactic(auto, using(rules::proofs::Refusals::one_value), unfolding(crate::specs::Lines::lines_open))]
 pub fn line_refused(r: Refusal, out: &mut [u8]) -> usize
     ensures { Fills (line_x (row_of r).number (row_of r).values) out.old out.new result }
 {
-    let x = refusals::number_of(r);
-    let number = x.number as u64;
-    let position = x.position as u64;
-    let l = with_number(begun(b'X'), number);
-    ended(with_number(l, position), out)
+    let Numbered { number, position } = Numbered::from(r);
+    line_numbers("X", &[number as u64, position as u64], out)
 }
 
 // `S records highest-round first-undecided written equivocators`
+#[tactic(auto, unfolding(crate::specs::Lines::lines_open))]
 pub fn line_settled(c: Counts, out: &mut [u8]) -> usize
     ensures { Fills (line_s c) out.old out.new result }
 {
-    let mut l = begun(b'S');
-    l = with_number(l, c.records as u64);
-    l = with_number(l, c.highest as u64);
-    l = with_number(l, c.undecided as u64);
-    l = with_number(l, c.written as u64);
-    l = with_number(l, c.equivocators as u64);
-    ended(l, out)
+    let counts = [
+        c.records as u64,
+        c.highest as u64,
+        c.undecided as u64,
+        c.written as u64,
+        c.equivocators as u64,
+    ];
+    line_numbers("S", &counts, out)
 }
 
-// `R r word`
-fn line_word(round: u32, word: &[u8], out: &mut [u8]) -> usize
-    requires { length word.now ≤ 9 }
-    ensures { Fills (line_word round word.now) out.old out.new result }
+// `R r word numbers`
+fn line_round(round: u32, word: &str, numbers: &[u64], out: &mut [u8]) -> usize
+    requires word { length word.now ≤ 9 }
+    requires few { length numbers.now ≤ 2 }
+    ensures { Fills (line (bytes_of "R") (decimal round ∷ word.now ∷ map decimal numbers.now)) out.old out.new result }
 {
-    let l = with_number(begun(b'R'), round as u64);
-    ended(with_word(l, word), out)
+    let mut l = Line::new();
+    l.push_str("R");
+    put_numbers(&mut l, &[round as u64]);
+    put_word(&mut l, word);
+    put_numbers(&mut l, numbers);
+    ended(l, out)
 }
 
 // `R r undecided`
+#[tactic(auto, unfolding(crate::specs::Lines::lines_open))]
 pub fn line_undecided(round: u32, out: &mut [u8]) -> usize
     ensures { Fills (line_undecided round) out.old out.new result }
 {
-    line_word(round, b"undecided", out)
+    line_round(round, "undecided", &[], out)
 }
 
 // `R r skip`
+#[tactic(auto, unfolding(crate::specs::Lines::lines_open))]
 pub fn line_skipped(round: u32, out: &mut [u8]) -> usize
     ensures { Fills (line_skipped round) out.old out.new result }
 {
-    line_word(round, b"skip", out)
+    line_round(round, "skip", &[], out)
 }
 
-// `R r commit author mark`
+// `R r commit author mark`. Three numbers: so its promise says.
+#[tactic(auto, unfolding(crate::specs::Lines::lines_open))]
 pub fn line_committed(round: u32, author: u8, mark: u32, out: &mut [u8]) -> usize
     ensures { Fills (line_committed round author mark) out.old out.new result }
 {
-    let mut l = with_number(begun(b'R'), round as u64);
-    l = with_word(l, b"commit");
-    l = with_number(l, author as u64);
-    l = with_number(l, mark as u64);
-    ended(l, out)
+    line_round(round, "commit", &[author as u64, mark as u64], out)
 }
 
 // `V round author mark`
+#[tactic(auto, unfolding(crate::specs::Lines::lines_open))]
 pub fn line_vertex(x: Name, out: &mut [u8]) -> usize
     ensures { Fills (line_named x) out.old out.new result }
 {
-    let mut l = with_number(begun(b'V'), x.round as u64);
-    l = with_number(l, x.author as u64);
-    l = with_number(l, x.mark as u64);
-    ended(l, out)
+    line_numbers("V", &[x.round as u64, x.author as u64, x.mark as u64], out)
 }

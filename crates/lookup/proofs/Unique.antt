@@ -4,12 +4,8 @@
 -- Assumes nothing.
 use mathlib.Core.Path.{◌≡◌, sym, ap, ◌∙◌}
 use Rattle.rules.proofs.Only.{Only}
-use Rattle.rules.proofs.Refusals.{refusal_unique, gives_refusal}
 use Rattle.rules.proofs.Refusals as refusals
 use Rattle.record.specs.Part.{SamePart}
-use Rattle.lookup.specs.declared.Standing.{Standing}
-use Rattle.lookup.specs.declared.Standing.TheVariants.{At, Refused}
-use Rattle.lookup.specs.Standing.{standing_tells}
 use Rattle.lookup.proofs.stands_at.Kinds as stands_at_kinds
 use Rattle.lookup.proofs.stands_at.Reads as stands_at
 use Rattle.lookup.proofs.lookup.Kinds as lookup_kinds
@@ -17,17 +13,11 @@ use Rattle.lookup.proofs.lookup.Reads as lookup
 use Rattle.lookup.proofs.lookup_answer.Kinds as lookup_answer_kinds
 use Rattle.lookup.proofs.lookup_answer.Reads as lookup_answer
 
-standing_unique : (c d : Standing) → standing_tells c ≡ standing_tells d → c ≡ d
-standing_unique (At p) (At q) e = cc
-standing_unique (At p) (Refused s) e = absurd (gives_refusal p s e)
-standing_unique (Refused r) (At q) e = absurd (gives_refusal q r (sym e))
-standing_unique (Refused r) (Refused s) e = ap Refused (refusal_unique r s e)
-
 pub stands_at_unique : Only 1 stands_at_kinds.ps stands_at_kinds.r (λ κs x e y f. x ≡ y) stands_at.Post
-stands_at_unique κs a x y e f p q = standing_unique x y (p ∙ sym q)
+stands_at_unique κs a x y e f p q = refusals.tells_unique x y (p ∙ sym q)
 
 pub lookup_answer_unique : Only 1 lookup_answer_kinds.ps lookup_answer_kinds.r (λ κs x e y f. x ≡ y) lookup_answer.Post
-lookup_answer_unique κs a x y e f p q = refusals.lookup_unique x y (p ∙ sym q)
+lookup_answer_unique κs a x y e f p q = refusals.tells_unique x y (p ∙ sym q)
 
 pub lookup_unique : Only 1 lookup_kinds.ps lookup_kinds.r (λ κs x e y f. SamePart x y) lookup.Post
 lookup_unique κs a x y e f p q = record { block = p.block ∙ sym q.block; place = p.place ∙ sym q.place; bytes = p.bytes ∙ sym q.bytes }

@@ -2,12 +2,13 @@
 #![tactic(auto)]
 
 ghost use Rattle.io.specs.Counts.{IsPrefixLen};
-ghost use Rattle.rules.specs.Refusals.{outcome_tells};
+ghost use Rattle.rules.specs.Refusals.{tells};
 ghost use Rattle.page.specs.Page.{OutputPage};
 
 use rules::Settlement;
 
-// Each line in turn, after the ones before it. A line for which there is no room is left out; 112 bytes for each line are room enough.
+// Each line in turn, after the ones before it. A line for which there is no room is left out; 112 bytes for each line are room enough. What a
+// settlement leaves is handed on as it is lent, as in `report`: so their promises say it.
 pub fn output_page(
     s: Settlement,
     table: &[u8],
@@ -15,16 +16,14 @@ pub fn output_page(
     order: &[u32],
     out: &mut [u8],
 ) -> usize
-    ensures output_page { OutputPage (outcome_tells s.outcome) table.now cells.now order.now
+    ensures output_page { OutputPage (tells s.outcome) table.now cells.now order.now
         out.old out.new result }
     ensures prefix_len { IsPrefixLen result out.new }
 {
     let lines = report::output_lines(s);
     let mut done: usize = 0;
-    let mut i: usize = 0;
-    while i < lines {
+    for i in 0..lines {
         done += report::output_line(s, table, cells, order, i, &mut out[done..]);
-        i += 1;
     }
     done
 }

@@ -3,10 +3,10 @@
 use Prim.Native.Nat.{ℕ, ◌+◌, ◌-◌, ◌*◌, ◌≤◌, ◌<◌, min}
 use mathlib.Core.Path.{◌≡◌, sym, ap, ◌∙◌}
 use mathlib.Core.List.{List}
-use native.Mathlib.Nat.{le_refl}
 use native.Mathlib.Omega.{arith}
-use lib.ListN.{length, take, drop, length-drop, drop_of_length-le, get_or-eq_default}
+use lib.ListN.{length, take, drop, length-drop, get_or-eq_default}
 use lib.Seq.{take_all}
+use Rattle.std.proofs.lemmas.List.{take_rest, drop_min}
 use denote.Ref.{Bor}
 use Rattle.rules.specs.Record.{first, record_at, decode, records, vertices, no_vertex, at}
 use Rattle.rules.proofs.Records.{vertices_length, vertices_at}
@@ -18,18 +18,11 @@ unfolding record_at
 own_bytes t p = let e : 138 * p + 138 - 138 * p ≡ 138 = omega arith in rw e
 
 -- past the last whole record, what is left
-pub left_bytes : (t : List ℕ) (p : ℕ) → length t < 138 * p + 138 → take (length t - 138 * p) (drop (138 * p) t) ≡ record_at first t p
+pub left_bytes : (t : List ℕ) (p begin : ℕ) → begin ≡ min (138 * p) (length t) → length t < 138 * p + 138 → take (length t - begin) (drop begin t) ≡ record_at first t p
 unfolding record_at
-left_bytes t p h =
+left_bytes t p begin e h =
     let few : length (drop (138 * p) t) ≡ length t - 138 * p = length-drop (138 * p) t in
-    take_all (length t - 138 * p) (drop (138 * p) t) (omega arith) ∙ sym (take_all 138 (drop (138 * p) t) (omega arith))
-
--- past that, nothing
-pub no_bytes : (t : List ℕ) (p : ℕ) → length t ≤ 138 * p → take (length t - length t) (drop (length t) t) ≡ record_at first t p
-no_bytes t p h =
-    let none : drop (length t) t ≡ drop (138 * p) t = drop_of_length-le t (le_refl (length t)) ∙ sym (drop_of_length-le t h) in
-    let zero : length t - length t ≡ length t - 138 * p = omega arith in
-    rw (zero, none) (left_bytes t p (omega arith))
+    take_rest t begin ∙ rw e (drop_min (138 * p) t) ∙ sym (take_all 138 (drop (138 * p) t) (omega arith))
 
 -- the part of a whole record, by its place and its length
 pub whole_part : (t r : Bor (List ℕ)) (p : ℕ) → RecordPart first t p r → p < records first t.now → PartOf t r (138 * p) 138

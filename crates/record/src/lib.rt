@@ -7,11 +7,12 @@ ghost use Rattle.rules.specs.Record.{first, records, vertices, at, decode as dec
 
 use numbers::{byte_at, u16_at, u32_at};
 use rules::{Name, Vertex};
+use std::array::from_fn;
 
 // The length of a record.
 pub const RECORD: usize = 138;
 
-// Where each field starts.
+// Where each field starts: the table is lent as bytes (C interface), and no copy of it is made.
 const ROUND: usize = 0;
 
 const MARK: usize = 4;
@@ -36,31 +37,24 @@ pub fn records_of(table: &[u8]) -> usize
 }
 
 // The bytes of the record at position p, in the caller's table: no copy. Past the last whole record what is left of the table, and past that nothing.
+#[tactic(auto, using(crate::proofs::Parts::own_bytes, crate::proofs::Parts::left_bytes))]
 pub fn part(table: &[u8], p: usize) -> &[u8]
     ensures { RecordPart first table.entry p result }
 {
-    if p < table.len() / RECORD {
+    // Tried with the end cut off by `min`: the compiler loses the record's length, and the check takes 4.0 times the instructions at n = 4.
+    if p < records_of(table) {
         return &table[RECORD * p..RECORD * p + RECORD];
     }
-    if p == table.len() / RECORD {
-        return &table[RECORD * p..];
-    }
-    &table[table.len()..]
+    &table[p.saturating_mul(RECORD).min(table.len())..]
 }
 
 // ---- fields
 
-// The 31 references, taken out as one value.
+// The 31 references, taken out as one value (document 01's form).
 pub fn refs_of(b: &[u8]) -> [u32; 31]
     ensures { result ≡ (decoded first b.now).refs }
 {
-    let mut refs = [0u32; 31];
-    let mut i: usize = 0;
-    while i < 31 {
-        refs[i] = u32_at(b, REFS + 4 * i);
-        i += 1;
-    }
-    refs
+    from_fn(|i| u32_at(b, REFS + 4 * i))
 }
 
 // The record, decoded. Nothing is checked here: any bytes make a vertex.
@@ -68,13 +62,13 @@ pub fn refs_of(b: &[u8]) -> [u32; 31]
 pub fn decode(b: &[u8]) -> Vertex
     ensures { result ≡ decoded first b.now }
 {
-    let refs = refs_of(b);
+    let name = name_of(b);
     Vertex {
-        round: u32_at(b, ROUND),
-        mark: u32_at(b, MARK),
-        refs,
+        round: name.round,
+        mark: name.mark,
+        refs: refs_of(b),
         batches: u16_at(b, BATCHES),
-        author: byte_at(b, AUTHOR),
+        author: name.author,
         padding: byte_at(b, PADDING),
         sum: u16_at(b, SUM),
     }
@@ -92,38 +86,33 @@ pub fn name_of(b: &[u8]) -> Name
     }
 }
 
-// Entry i alone; none stands from 31 on.
-#[tactic(auto, using(crate::proofs::Laws::entry_within, crate::proofs::Laws::entry_past))]
+// Entry i alone, and not all 31; none stands from 31 on.
+#[tactic(auto, using(folds::proofs::Lists::get_or_tabulate, folds::proofs::Lists::length_tabulate, std::proofs::lemmas::List::get_or_past), unfolding(rules::specs::Record::decode))]
 pub fn entry_of(b: &[u8], i: usize) -> u32
     ensures { result ≡ entry (decoded first b.now) i }
 {
-    if i < 31 {
-        return u32_at(b, REFS + 4 * i);
-    }
-    0
+    if i < 31 { u32_at(b, REFS + 4 * i) } else { 0 }
 }
 
 // ---- fields of the record at a position; zeros where there is no whole record
 
 // The name of the record at p.
+#[tactic(auto, using(crate::proofs::Parts::part_vertex, crate::proofs::Parts::past_vertex))]
 pub fn name_at(table: &[u8], p: usize) -> Name
     ensures { result ≡ name_of (at (vertices first table.now) p) }
 {
-    if p < table.len() / RECORD {
+    if p < records_of(table) {
         return name_of(part(table, p));
     }
-    Name {
-        round: 0,
-        author: 0,
-        mark: 0,
-    }
+    Name::default()
 }
 
-// Entry i of the record at p.
+// Entry i of the record at p. As `name_at` but for what is read and what stands for nothing: one function for both would be handed the two.
+#[tactic(auto, using(crate::proofs::Parts::part_vertex, crate::proofs::Parts::past_vertex))]
 pub fn entry_at(table: &[u8], p: usize, i: usize) -> u32
     ensures { result ≡ entry (at (vertices first table.now) p) i }
 {
-    if p < table.len() / RECORD {
+    if p < records_of(table) {
         return entry_of(part(table, p), i);
     }
     0

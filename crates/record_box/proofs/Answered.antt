@@ -7,7 +7,7 @@ use lib.ListN.{length}
 use borrow.Author.Tests.{lt-ltb, le-ltb}
 use Rattle.rules.specs.declared.Settlement.{Settlement}
 use Rattle.rules.specs.declared.Refusal.TheVariants.{Input}
-use Rattle.rules.specs.declared.Outcome.TheVariants.{Refused}
+use Rattle.std.specs.declared.result.Result.TheVariants.{Err}
 use Rattle.rules.specs.Refusals.{refusal, ◌when◌, ◌then◌}
 use Rattle.rules.specs.Record.{first}
 use Rattle.rules.specs.Decide.{box_setting}
@@ -27,7 +27,7 @@ fits : (input : List ℕ) (b : Buffers) → length input ≤ holds
 unfolding answered checked settle ◌when◌ ◌then◌
 fits input b h = rw (le-ltb holds (length input) h)
 
-pub answers_long : (input : List ℕ) (b : Buffers) (r : Settlement) → holds < length input → r.outcome ≡ Refused Input → Answers input b r b
+pub answers_long : (input : List ℕ) (b : Buffers) (r : Settlement) → holds < length input → r.outcome ≡ Err Input → Answers input b r b
 answers_long input b r h e =
     let a = long input b h in
     record { outcome = rw (a, e); cells = rw a; order = rw a; taken = rw a }

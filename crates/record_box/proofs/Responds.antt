@@ -7,7 +7,7 @@ use native.Mathlib.Omega.{arith}
 use lib.ListN.{length, take, drop, length-append, length-drop, length-map}
 use lib.Seq.{take_at}
 use Rattle.rules.specs.declared.Settlement.{Settlement}
-use Rattle.rules.specs.Refusals.{Told, gives, refused, outcome_tells}
+use Rattle.rules.specs.Refusals.{Told, gives, refused, tells}
 use Rattle.rules.specs.Record.{first, vertices}
 use Rattle.rules.specs.Decision.{cell}
 use Rattle.rules.specs.Decide.{box_setting, decisions}
@@ -42,7 +42,7 @@ few (gives u) n t b p q =
 
 module _ (input : List ℕ) (b a : Buffers) (s : Settlement) (A : Answers input b s a) (held : Held b)
     (cells : length a.cells ≡ 474) (order : length a.order ≡ 474) where
-  lines_few : output_lines (outcome_tells s.outcome) ≤ 949
+  lines_few : output_lines (tells s.outcome) ≤ 949
   unfolding answered
   lines_few =
       let c = ap length (sym A.cells) ∙ cells in
@@ -50,14 +50,14 @@ module _ (input : List ℕ) (b a : Buffers) (s : Settlement) (A : Answers input 
       rw A.outcome (few (checked input b) (authors_in input) (table_in input) b c o)
 
   pub responds : (t old new : List ℕ) (r : ℕ) → t ≡ table_in input → 106288 ≤ length old
-      → OutputPage (outcome_tells s.outcome) t a.cells a.order old new r
+      → OutputPage (tells s.outcome) t a.cells a.order old new r
       → take r new ≡ printed input
   unfolding output
   responds t old new r e room p =
-      let f = output_line (outcome_tells s.outcome) t a.cells a.order in
-      let n : min (output_lines (outcome_tells s.outcome)) 18446744073709551615 ≡ output_lines (outcome_tells s.outcome) = omega (arith, lines_few) in
-      let p' : Page f old (output_lines (outcome_tells s.outcome)) new r = rw n at p in
-      let w = fitted f (length old) (output_lines (outcome_tells s.outcome)) in
+      let f = output_line (tells s.outcome) t a.cells a.order in
+      let n : min (output_lines (tells s.outcome)) 18446744073709551615 ≡ output_lines (tells s.outcome) = omega (arith, lines_few) in
+      let p' : Page f old (output_lines (tells s.outcome)) new r = rw n at p in
+      let w = fitted f (length old) (output_lines (tells s.outcome)) in
       let front : take r new ≡ w = rw p'.buffer (take_at w (drop (length w) old) r (sym p'.answer)) in
-      let all : w ≡ output (outcome_tells s.outcome) t a.cells a.order = p'.whole (omega (arith, lines_few)) in
+      let all : w ≡ output (tells s.outcome) t a.cells a.order = p'.whole (omega (arith, lines_few)) in
       front ∙ all ∙ rw (A.outcome, A.cells, A.order, e) (prints input b held)

@@ -2,7 +2,7 @@
 -- Assumes nothing.
 use Rattle.std.specs.Prelude.{ℕ, ◌≡◌, List, ltb, length, get_or, drop}
 use Rattle.rules.specs.declared.Settlement.{Settlement}
-use Rattle.rules.specs.Refusals.{Told, refusal, outcome_tells, ◌when◌, ◌then◌}
+use Rattle.rules.specs.Refusals.{Told, refusal, tells, ◌when◌, ◌then◌}
 use Rattle.rules.specs.Record.{first, vertices}
 use Rattle.rules.specs.Decide.{box_setting}
 use Rattle.rules.specs.Settlement.{Buffers, Settles, lent_check, settle_if}
@@ -24,7 +24,7 @@ unfoldable pub answered : List ℕ → Buffers → Settles
 answered input b = settle_if (checked input b) (box_setting (authors_in input)) (authors_in input) (vertices first (table_in input)) b
 
 pub record Answers (input : List ℕ) (before : Buffers) (r : Settlement) (after : Buffers) : Type 0 where
-  pub outcome : outcome_tells r.outcome ≡ (answered input before).outcome
+  pub outcome : tells r.outcome ≡ (answered input before).outcome
   pub cells : after.cells ≡ (answered input before).buffers.cells
   pub order : after.order ≡ (answered input before).buffers.order
   pub taken : after.taken ≡ (answered input before).buffers.taken

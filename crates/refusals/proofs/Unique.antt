@@ -2,8 +2,8 @@
 -- Assumes nothing.
 use mathlib.Core.Path.{◌≡◌, sym, ◌∙◌}
 use Rattle.rules.proofs.Only.{Only}
-use Rattle.refusals.proofs.number_of.Kinds as number_of_kinds
-use Rattle.refusals.proofs.number_of.Reads as number_of
+use Rattle.refusals.proofs.NumberedFromRefusal.from.Kinds as from_kinds
+use Rattle.refusals.proofs.NumberedFromRefusal.from.Reads as from_refusal
 
-pub number_of_unique : Only 0 number_of_kinds.ps number_of_kinds.r (λ κs x e y f. x ≡ y) number_of.Post
-number_of_unique κs a x y e f p q = p ∙ sym q
+pub numbered_unique : Only 0 from_kinds.ps from_kinds.r (λ κs x e y f. x ≡ y) from_refusal.Post
+numbered_unique κs a x y e f p q = p ∙ sym q

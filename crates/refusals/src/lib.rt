@@ -1,11 +1,6 @@
 // Document 01's number and position of a refusal, for all that tell it: the lines and the exports.
 #![tactic(auto)]
 
-ghost use Rattle.std.specs.Prelude.{◌≡◌};
-ghost use Rattle.rules.specs.declared.Checked.TheVariants as Checked;
-ghost use Rattle.rules.specs.Refusals.{check_tells};
-ghost use Rattle.refusals.specs.Numbers.{numbered_as, number_at};
-
 use rules::Refusal;
 
 #[derive(Clone, Copy)]
@@ -14,30 +9,31 @@ pub struct Numbered {
     pub position: usize,
 }
 
-fn at(number: u32, position: usize) -> Numbered
-    ensures { result ≡ number_at number position }
-{
-    Numbered { number, position }
-}
-
 // The record's position; 0 for a refusal that is of no record.
-pub fn number_of(why: Refusal) -> Numbered
-    ensures { result ≡ numbered_as (check_tells (Checked.Refused why)) }
-{
-    match why {
-        Refusal::Authors => at(1, 0),
-        Refusal::Length => at(2, 0),
-        Refusal::Records => at(3, 0),
-        Refusal::Sum { position } => at(4, position),
-        Refusal::Padding { position } => at(5, position),
-        Refusal::Rising { position } => at(6, position),
-        Refusal::Entries { position } => at(7, position),
-        Refusal::Earlier { position } => at(8, position),
-        Refusal::Lent => at(10, 0),
-        Refusal::Unnamed => at(11, 0),
-        Refusal::Input => at(12, 0),
-        Refusal::RoundZero { position } => at(18, position),
-        Refusal::MarkZero { position } => at(19, position),
-        Refusal::AuthorPast { position } => at(20, position),
+impl From<Refusal> for Numbered {
+    ghost use Rattle.std.specs.Prelude.{◌≡◌};
+    ghost use Rattle.rules.specs.Refusals.{refusal_tells};
+    ghost use Rattle.refusals.specs.Numbers.{numbered_as};
+
+    ghost from_gives = { λ why told. told ≡ numbered_as {A = Unit {0}} (refusal_tells why) };
+
+    fn from(why: Refusal) -> Numbered {
+        let (number, position) = match why {
+            Refusal::Authors => (1, 0),
+            Refusal::Length => (2, 0),
+            Refusal::Records => (3, 0),
+            Refusal::Sum { position } => (4, position),
+            Refusal::Padding { position } => (5, position),
+            Refusal::Rising { position } => (6, position),
+            Refusal::Entries { position } => (7, position),
+            Refusal::Earlier { position } => (8, position),
+            Refusal::Lent => (10, 0),
+            Refusal::Unnamed => (11, 0),
+            Refusal::Input => (12, 0),
+            Refusal::RoundZero { position } => (18, position),
+            Refusal::MarkZero { position } => (19, position),
+            Refusal::AuthorPast { position } => (20, position),
+        };
+        Numbered { number, position }
     }
 }

@@ -11,13 +11,10 @@ use native.Mathlib.Numerals.{add-one}
 use lib.ListN.{get_or}
 use Rattle.rules.specs.declared.Refusal.{Refusal}
 use Rattle.rules.specs.declared.Refusal.TheVariants.{Authors, Length, Records, Sum, Padding, Rising, Entries, Earlier, Lent, Unnamed, Input, RoundZero, MarkZero, AuthorPast}
-use Rattle.rules.specs.declared.Checked.{Checked}
-use Rattle.rules.specs.declared.Checked.TheVariants as checked
-use Rattle.rules.specs.declared.LookupAnswer.{LookupAnswer}
-use Rattle.rules.specs.declared.LookupAnswer.TheVariants as answer
-use Rattle.rules.specs.declared.Outcome.{Outcome}
-use Rattle.rules.specs.declared.Outcome.TheVariants as outcome
-use Rattle.rules.specs.Refusals.{Told, gives, refused, passed, number_of, position_of, row_of, refusal_tells, check_tells, lookup_tells, outcome_tells, ◌when◌, ◌then◌, each_to}
+use Rattle.std.specs.Result.{result_and}
+use Rattle.std.specs.declared.result.Result.{Result}
+use Rattle.std.specs.declared.result.Result.TheVariants.{Ok, Err}
+use Rattle.rules.specs.Refusals.{Told, gives, refused, passed, number_of, position_of, row_of, refusal_tells, tells, ◌when◌, ◌then◌, each_to}
 
 pub refused_gives : {A : Type 0} {k : ℕ} {vs : List ℕ} {a : A} {c : Told A} → c ≡ refused k vs → c ≡ gives a → ⊥
 refused_gives p q = let z : ◌≡◌ {A = ℕ} 0 1 = cc in omega arith
@@ -88,13 +85,13 @@ then_idle (refused k vs) d h = refl
 -- ---- what code that asks for an answer and goes on knows
 
 -- an answer that is handed on
-pub hands_on : {A : Type 0} {x : Checked} {r : Refusal} (c : Told (Unit {0})) (d : Told A) → check_tells x ≡ c → x ≡ checked.Refused r
+pub hands_on : {A : Type 0} {x : Result (Unit {0}) Refusal} {r : Refusal} (c : Told (Unit {0})) (d : Told A) → tells x ≡ c → x ≡ Err r
     → refusal_tells r ≡ c then d
-hands_on c d e f = sym (then_refused c d (sym e ∙ ap check_tells f))
+hands_on c d e f = sym (then_refused c d (sym e ∙ ap tells f))
 
 -- an answer after which it goes on
-pub goes_on : {x : Checked} {c : Told (Unit {0})} → check_tells x ≡ c → x ≡ checked.Passed → c ≡ passed
-goes_on e f = sym e ∙ ap check_tells f
+pub goes_on : {x : Result (Unit {0}) Refusal} {c : Told (Unit {0})} → tells x ≡ c → x ≡ Ok tt → c ≡ passed
+goes_on e f = sym e ∙ ap tells f
 
 -- ---- the check of each
 
@@ -210,20 +207,14 @@ refusal_unique r s e = sym (rowed r).fixed ∙ ap (λ c. unnumber (number_of c) 
 pub gives_refusal : {A : Type 0} (a : A) (r : Refusal) → gives a ≡ refusal_tells r → ⊥
 gives_refusal a r e = refused_gives refl (sym e)
 
-pub check_unique : (c d : Checked) → check_tells c ≡ check_tells d → c ≡ d
-check_unique checked.Passed checked.Passed e = refl
-check_unique checked.Passed (checked.Refused s) e = absurd (gives_refusal tt s e)
-check_unique (checked.Refused r) checked.Passed e = absurd (gives_refusal tt r (sym e))
-check_unique (checked.Refused r) (checked.Refused s) e = ap checked.Refused (refusal_unique r s e)
+pub tells_unique : {A : Type 0} (c d : Result A Refusal) → tells c ≡ tells d → c ≡ d
+tells_unique (Ok a) (Ok b) e = cc
+tells_unique (Ok a) (Err s) e = absurd (gives_refusal a s e)
+tells_unique (Err r) (Ok b) e = absurd (gives_refusal b r (sym e))
+tells_unique (Err r) (Err s) e = ap Err (refusal_unique r s e)
 
-pub lookup_unique : (c d : LookupAnswer) → lookup_tells c ≡ lookup_tells d → c ≡ d
-lookup_unique answer.Found answer.Found e = refl
-lookup_unique answer.Found (answer.Refused s) e = absurd (gives_refusal tt s e)
-lookup_unique (answer.Refused r) answer.Found e = absurd (gives_refusal tt r (sym e))
-lookup_unique (answer.Refused r) (answer.Refused s) e = ap answer.Refused (refusal_unique r s e)
-
-pub outcome_unique : (c d : Outcome) → outcome_tells c ≡ outcome_tells d → c ≡ d
-outcome_unique (outcome.Settled a) (outcome.Settled b) e = cc
-outcome_unique (outcome.Settled a) (outcome.Refused s) e = absurd (gives_refusal a s e)
-outcome_unique (outcome.Refused r) (outcome.Settled b) e = absurd (gives_refusal b r (sym e))
-outcome_unique (outcome.Refused r) (outcome.Refused s) e = ap outcome.Refused (refusal_unique r s e)
+-- the first failing check answers
+pub tells_and : {A : Type 0} (c : Result (Unit {0}) Refusal) (d : Result A Refusal) → tells (result_and c d) ≡ tells c then tells d
+unfolding ◌then◌
+tells_and (Ok tt) d = refl
+tells_and (Err r) d = refl

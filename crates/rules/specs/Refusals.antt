@@ -1,15 +1,10 @@
 -- Document 01, "Refusal numbers and their order": what a call tells, the number and the values of each refusal, and how the first failing check answers.
 -- Assumes nothing.
+use Rattle.std.specs.declared.result.Result.{Result}
+use Rattle.std.specs.declared.result.Result.TheVariants.{Ok, Err}
 use Rattle.std.specs.Prelude.{ℕ, zero, suc, Bool, true, false, List, [], ◌∷◌, get_or}
 use Rattle.rules.specs.declared.Refusal.{Refusal}
 use Rattle.rules.specs.declared.Refusal.TheVariants.{Authors, Length, Records, Sum, Padding, Rising, Entries, Earlier, Lent, Unnamed, Input, RoundZero, MarkZero, AuthorPast}
-use Rattle.rules.specs.declared.Checked.{Checked}
-use Rattle.rules.specs.declared.Checked.TheVariants as checked
-use Rattle.rules.specs.declared.LookupAnswer.{LookupAnswer}
-use Rattle.rules.specs.declared.LookupAnswer.TheVariants as answer
-use Rattle.rules.specs.declared.Counts.{Counts}
-use Rattle.rules.specs.declared.Outcome.{Outcome}
-use Rattle.rules.specs.declared.Outcome.TheVariants as outcome
 
 -- ---- what is told, in this paper's numbers
 
@@ -64,18 +59,10 @@ row_of (AuthorPast p) = row 20 p
 abbrev pub refusal_tells : {A : Type 0} → Refusal → Told A
 refusal_tells r = refused (row_of r).number (row_of r).values
 
-abbrev pub check_tells : Checked → Told (Unit {0})
-check_tells checked.Passed = passed
-check_tells (checked.Refused r) = refusal_tells r
-
-abbrev pub lookup_tells : LookupAnswer → Told (Unit {0})
-lookup_tells answer.Found = passed
-lookup_tells (answer.Refused r) = refusal_tells r
-
--- Settled, with the five values; or refused.
-abbrev pub outcome_tells : Outcome → Told Counts
-outcome_tells (outcome.Settled c) = gives c
-outcome_tells (outcome.Refused r) = refusal_tells r
+-- An answer tells what it gives, or its refusal: the check and the lookup's second question give nothing more, the settlement its five values.
+abbrev pub tells : {A : Type 0} → Result A Refusal → Told A
+tells (Ok a) = gives a
+tells (Err r) = refusal_tells r
 
 -- ---- the order of checks
 

@@ -1,15 +1,16 @@
-// The words of document 01 as types, shared by the definitions in specs/ and by the code of every other crate. No function stands here.
+// The words of document 01 as types, shared by the definitions in specs/ and by the code of every other crate. No function stands here but
+// what is derived.
 #![tactic(auto)]
 
-// What tells vertices apart.
-#[derive(Clone, Copy)]
+// What tells vertices apart. Names are ordered by round, then author, then mark, as the fields stand.
+#[derive(Clone, Copy, PartialEq, Eq, PartialOrd, Ord, Default)]
 pub struct Name {
     pub round: u32,
     pub author: u8,
     pub mark: u32,
 }
 
-// A record, decoded.
+// A record, decoded. What names it is three fields of it, and no `Name`: so the definitions have it (`name_of`).
 #[derive(Clone, Copy)]
 pub struct Vertex {
     pub round: u32,
@@ -40,15 +41,8 @@ pub enum Refusal {
     AuthorPast { position: usize },
 }
 
-// What the check tells.
-#[derive(Clone, Copy)]
-pub enum Checked {
-    Passed,
-    Refused(Refusal),
-}
-
 // What a settled outcome has.
-#[derive(Clone, Copy)]
+#[derive(Clone, Copy, Default)]
 pub struct Counts {
     pub records: usize,
     pub highest: u32,
@@ -57,21 +51,8 @@ pub struct Counts {
     pub equivocators: usize,
 }
 
-// What the settlement gives.
-#[derive(Clone, Copy)]
-pub enum Outcome {
-    Settled(Counts),
-    Refused(Refusal),
-}
-
+// What the settlement gives: settled, or refused. A struct, since document 01's form is one that holds the enum.
 #[derive(Clone, Copy)]
 pub struct Settlement {
-    pub outcome: Outcome,
-}
-
-// What the lookup's second question gives.
-#[derive(Clone, Copy)]
-pub enum LookupAnswer {
-    Found,
-    Refused(Refusal),
+    pub outcome: Result<Counts, Refusal>,
 }

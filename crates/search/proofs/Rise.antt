@@ -1,9 +1,9 @@
 -- Where the names of the first records rise: a name is looked for by halves among them, and what that says of `find`.
 -- Assumes nothing.
 use Prim.Native.Nat.{ℕ, ◌+◌, ◌-◌, ◌/◌, ◌≤◌, ◌<◌}
-use mathlib.Core.Path.{◌≡◌, sym, ◌∙◌, subst}
+use mathlib.Core.Path.{◌≡◌, sym, subst}
 use mathlib.Core.Logic.{◌⊎◌, inl, inr}
-use mathlib.Core.Bool.{Bool, true, false, cond}
+use mathlib.Core.Bool.{true, false}
 use mathlib.Core.List.{List}
 use native.Mathlib.Omega.{arith}
 use native.Mathlib.Nat.{le_refl}
@@ -57,8 +57,8 @@ module _ (t : List ℕ) (p : ℕ) (x : Name) (r : Rise t p) (lo hi m : ℕ) (is 
   m_low : m < p
   m_low = omega (arith, S.within)
 
-  up : below (name_at t m) x ≡ true → Searched t p x (m + 1) hi
-  up b = record {
+  pub searched_up : below (name_at t m) x ≡ true → Searched t p x (m + 1) hi
+  searched_up b = record {
     ordered = omega arith;
     within = S.within;
     low = λ j h. by_test (ltb j m)
@@ -67,8 +67,8 @@ module _ (t : List ℕ) (p : ℕ) (x : Name) (r : Rise t p) (lo hi m : ℕ) (is 
     high = S.high;
   }
 
-  down : below (name_at t m) x ≡ false → Searched t p x lo m
-  down b = record {
+  pub searched_down : below (name_at t m) x ≡ false → Searched t p x lo m
+  searched_down b = record {
     ordered = omega arith;
     within = omega (arith, S.within);
     low = S.low;
@@ -76,12 +76,6 @@ module _ (t : List ℕ) (p : ℕ) (x : Name) (r : Rise t p) (lo hi m : ℕ) (is 
         (λ e. not_higher x (name_at t j) (below_trans _ _ _ (higher x (name_at t m) other b) (r m j (ltb-true m j e) h')))
         (λ e. let q : j ≡ m = omega (arith, ltb-false m j e) in subst (λ i. same_name (name_at t i) x ≡ false) (sym q) other);
   }
-
-  pub searched_turn : (held : Bool) (lo' hi' : ℕ) → held ≡ below (name_at t m) x → lo' ≡ cond held (m + 1) lo → hi' ≡ cond held hi m → Searched t p x lo' hi'
-  searched_turn held lo' hi' q e f =
-      by_test held
-      (λ h. let a : lo' ≡ m + 1 = rw h at e in let b : hi' ≡ hi = rw h at f in rw (a, b) (up (sym q ∙ h)))
-      (λ h. let a : lo' ≡ lo = rw h at e in let b : hi' ≡ m = rw h at f in rw (a, b) (down (sym q ∙ h)))
 
 -- ---- what it says of `find`
 

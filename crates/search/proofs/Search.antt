@@ -1,7 +1,7 @@
 -- The search by halves: its turns, and that it finds the first number at which a test that holds up to some number and fails from there on fails.
 -- Assumes nothing.
-use Prim.Native.Nat.{ℕ, zero, suc, ◌+◌, ◌-◌, ◌/◌, ◌%◌, ◌≤◌, ◌<◌, zero-le}
-use mathlib.Core.Path.{◌≡◌, refl, sym, ap, ◌∙◌}
+use Prim.Native.Nat.{ℕ, zero, suc, ◌+◌, ◌-◌, ◌/◌, ◌≤◌, ◌<◌, zero-le}
+use mathlib.Core.Path.{◌≡◌, refl, sym, ◌∙◌}
 use mathlib.Core.Bool.{Bool, true, false, not, cond}
 use mathlib.Core.List.{List}
 use native.Mathlib.Omega.{arith}
@@ -16,10 +16,6 @@ use Rattle.rules.specs.Record.{same_name, below}
 use Rattle.search.specs.Search.{halves, name_at, place_of, find_below}
 
 -- ---- the turns
-
--- a search never reaches the largest number there is
-pub raised_is : (held : Bool) (lo m r : ℕ) → r ≡ cond held ((m + 1) % 18446744073709551616) lo → m < 18446744073709551615 → r ≡ cond held (m + 1) lo
-raised_is held lo m r e l = let q : (m + 1) % 18446744073709551616 ≡ m + 1 = omega arith in e ∙ ap (λ k. cond held k lo) q
 
 pub halves_end : (p : ℕ → Bool) (k lo hi : ℕ) → hi ≤ lo → halves p k lo hi ≡ lo
 unfolding halves
@@ -46,43 +42,6 @@ module _ (p : ℕ → Bool) (lo hi m : ℕ) (is : m ≡ lo + (hi - lo) / 2) (l :
 
   pub halves_down : p m ≡ false → halves p (hi - lo) lo hi ≡ halves p (m - lo) lo m
   halves_down t = turn (hi - lo - 1) (omega arith) ∙ rw t (halves_enough p (hi - lo - 1) (m - lo) lo m (omega arith) (omega arith))
-
--- what a turn of the loop leaves: past the middle where the test held there, and else down to it
-pub record Halved (lo hi lo' hi' : ℕ) : Type 0 where
-  pub ordered : lo' ≤ hi'
-  pub within : hi' ≤ hi
-  pub less : hi' - lo' < hi - lo
-
-module _ (held : Bool) (lo hi m lo' hi' : ℕ) (is : m ≡ lo + (hi - lo) / 2) (l : lo < hi) (e : lo' ≡ cond held (m + 1) lo) (f : hi' ≡ cond held hi m) where
-  pub halved : Halved lo hi lo' hi'
-  halved = by_test held up down
-    where
-      up : held ≡ true → Halved lo hi lo' hi'
-      up t =
-          let a : lo' ≡ m + 1 = rw t at e in
-          let b : hi' ≡ hi = rw t at f in
-          record { ordered = omega arith; within = omega arith; less = omega arith }
-
-      down : held ≡ false → Halved lo hi lo' hi'
-      down t =
-          let a : lo' ≡ lo = rw t at e in
-          let b : hi' ≡ m = rw t at f in
-          record { ordered = omega arith; within = omega arith; less = omega arith }
-
-  pub halves_turn : (p : ℕ → Bool) → held ≡ p m → halves p (hi - lo) lo hi ≡ halves p (hi' - lo') lo' hi'
-  halves_turn p q = by_test held up down
-    where
-      up : held ≡ true → halves p (hi - lo) lo hi ≡ halves p (hi' - lo') lo' hi'
-      up t =
-          let a : lo' ≡ m + 1 = rw t at e in
-          let b : hi' ≡ hi = rw t at f in
-          rw (a, b) (halves_up p lo hi m is l (sym q ∙ t))
-
-      down : held ≡ false → halves p (hi - lo) lo hi ≡ halves p (hi' - lo') lo' hi'
-      down t =
-          let a : lo' ≡ lo = rw t at e in
-          let b : hi' ≡ m = rw t at f in
-          rw (a, b) (halves_down p lo hi m is l (sym q ∙ t))
 
 pub place_start : (t : List ℕ) (k : ℕ) (x : Name) → place_of t k x ≡ halves (λ p. below (name_at t p) x) (k - 0) 0 k
 unfolding place_of

@@ -7,14 +7,13 @@ ghost use Rattle.rules.specs.Record.{first, records, vertices};
 ghost use Rattle.rules.specs.Decide.{highest};
 ghost use Rattle.search.specs.Search.{place_of, find_below};
 
-use names::{below, lowered, raised, same};
 use record::{name_at, records_of};
 use rules::Name;
-use tally::smaller;
 
 // ---- the search by halves
 
-// Where x stands or would stand among the first k records, if their names rise.
+// Where x stands or would stand among the first k records, if their names rise. By hand, since `place_of` says what is answered on names that do not
+// rise too; the library's searches promise that of a sorted list alone.
 fn place_of(table: &[u8], k: usize, x: Name) -> usize
     requires { k ≤ records first table.now }
     ensures { result ≡ place_of table.now k x }
@@ -28,9 +27,11 @@ fn place_of(table: &[u8], k: usize, x: Name) -> usize
         if all <= m {
             return lo;
         }
-        let held = below(name_at(table, m), x);
-        lo = raised(held, lo, m);
-        hi = lowered(held, hi, m);
+        if name_at(table, m) < x {
+            lo = m + 1;
+        } else {
+            hi = m;
+        }
     }
     lo
 }
@@ -39,26 +40,27 @@ fn place_of(table: &[u8], k: usize, x: Name) -> usize
 pub fn place(table: &[u8], count: usize, x: Name) -> usize
     ensures { result ≡ place_of table.now (min count (records first table.now)) x }
 {
-    place_of(table, smaller(count, records_of(table)), x)
+    place_of(table, count.min(records_of(table)), x)
 }
 
-// The position of the name among the first `count` records, or how many those are: all, if there are fewer.
+// The position of the name among the first `count` records, or how many those are: all, if there are fewer. No `Option`: so says `find_below`.
+#[tactic(auto, using(crate::proofs::Names::name_at_lem, crate::proofs::Search::found_here, crate::proofs::Search::found_other, crate::proofs::Search::found_past, names::proofs::Names::eq_is))]
 pub fn find(table: &[u8], count: usize, x: Name) -> usize
     ensures { result ≡ find_below table.now (min count (records first table.now)) x }
 {
-    let k = smaller(count, records_of(table));
+    let k = count.min(records_of(table));
     let m = place_of(table, k, x);
-    if m < k {
-        if same(name_at(table, m), x) {
-            return m;
-        }
+    if m < k && name_at(table, m) == x {
+        m
+    } else {
+        k
     }
-    k
 }
 
 // ---- the highest round
 
 // The round of the last record; 0 for an empty table.
+#[tactic(auto, using(crate::proofs::Names::name_at_lem, crate::proofs::Highest::highest_empty, crate::proofs::Highest::highest_last))]
 pub fn highest_of(table: &[u8]) -> u32
     ensures { result ≡ highest (vertices first table.now) }
 {

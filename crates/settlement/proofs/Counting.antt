@@ -1,19 +1,24 @@
 -- The counts of a settled table: the first undecided cell, and the equivocators. Names rise, so an author's two records of one round stand
 -- side by side with one another or with a third of that round and author.
 -- Assumes nothing.
-use Prim.Native.Nat.{ℕ, suc, ◌+◌, ◌-◌, ◌≤◌, ◌<◌}
-use mathlib.Core.Path.{◌≡◌, refl, sym, ap, ap₂, ◌∙◌}
+use Prim.Native.Nat.{ℕ, zero, suc, ◌+◌, ◌-◌, ◌≤◌, ◌<◌}
+use mathlib.Core.Path.{◌≡◌, refl, sym, ap, ◌∙◌}
 use mathlib.Core.Logic.{◌⊎◌, inl, inr, ⊎_elim, ◌≢◌}
-use mathlib.Core.Bool.{Bool, true, false, not}
-use mathlib.Core.List.{List}
+use mathlib.Core.Bool.{Bool, true, false, not, cond, ◌&&◌}
+use mathlib.Core.List.{List, [], ◌∷◌, ◌++◌}
 use native.Mathlib.Omega.{arith}
 use lib.Dec.{ltb, eqb}
-use lib.ListN.{length, get_or, set, replicate}
+use lib.ListN.{length, get_or, set, take, replicate}
+use lib.Seq.{ext_get_or}
+use Rattle.std.specs.Option.{unwrap_or}
+use Rattle.std.specs.List.{position, position_or_len, count_by}
+use Rattle.std.proofs.lemmas.List.{length-take-le, get_or-take}
+use Rattle.std.proofs.lemmas.List.Sums.{sum_by-append, prefix_len-le-length, fails_before_first, passes_at_first}
 use borrow.Author.Tests.{eqb-true, eqb-false, eq-eqb, ne_eqb, ltb-true, ltb-false}
 use Rattle.folds.specs.Folds.{◌and◌, ◌or◌, bit, count_to, any_to, first_to, tabulate}
 use Rattle.folds.proofs.Tests.{by_test, not_both, failed, and_left, and_right, and_true, or_cases, or_right, not_true, is_not, compare}
-use Rattle.folds.proofs.Laws.{first_by, any_none, any_witness, any_intro, count_same}
-use Rattle.folds.proofs.Lists.{get_or_tabulate, tabulate_same}
+use Rattle.folds.proofs.Laws.{first_by, any_witness, any_intro}
+use Rattle.folds.proofs.Lists.{get_or_tabulate, tabulate_same, length_tabulate}
 use Rattle.rules.specs.declared.Name.{Name}
 use Rattle.rules.specs.declared.Vertex.{Vertex}
 use Rattle.rules.specs.Record.{at, name_of, below}
@@ -21,13 +26,31 @@ use Rattle.rules.specs.Settlement.{equivocates, equivocators}
 use Rattle.rules.proofs.Names.{Below, is_below, below_round, below_mark}
 use Rattle.rules.proofs.Accepted.{Accepted, author_low, rising}
 use Rattle.folds.proofs.Over.{or_last, set_tabulate}
+use Rattle.stops.specs.declared.cell.Cell.{Cell}
+use Rattle.stops.specs.declared.cell.Cell.TheVariants.{Undecided}
+use Rattle.stops.specs.Cells.{says}
+use Rattle.rules.specs.Decision.{said}
 use Rattle.settlement.specs.Twins.{side}
 
 -- ---- a search from below
 
--- the first that passes
-pub first_found : (p : ℕ → Bool) (k i : ℕ) → i < k → any_to p i ≡ false → p i ≡ true → i ≡ first_to p k
-first_found p k i l none t = sym (first_by p k i (record { within = omega arith; before = any_none p i none; hit = λ _. t }))
+-- the first element that passes stands where a list's own search finds it
+pub first_position : (p : ℕ → Bool) (xs : List ℕ) → unwrap_or (position p xs) (length xs) ≡ first_to (λ i. p (get_or xs i 0)) (length xs)
+first_position p xs =
+    found ∙ sym (first_by _ (length xs) (position_or_len p xs) (record {
+      within = prefix_len-le-length _ xs;
+      before = λ i l. fails_before_first p xs i 0 l;
+      hit = λ l. passes_at_first p xs 0 l;
+    }))
+  where
+    found : unwrap_or (position p xs) (length xs) ≡ position_or_len p xs
+    found = by_test (ltb (position_or_len p xs) (length xs)) (λ e. rw e) (λ e. rw e (omega (arith, prefix_len-le-length (λ x. not (p x)) xs, ltb-false _ _ e)))
+
+-- a cell says that its slot is undecided where it is 0
+pub said_open : (x : ℕ) (y : Cell) → says y ≡ said x → (y ≡ Undecided) → x ≡ 0
+said_open zero y e f = refl
+said_open (suc zero) y e f = absurd (cc (ap says f))
+said_open (suc (suc x)) y e f = absurd (cc (ap says f))
 
 -- ---- two neighbours
 
@@ -114,24 +137,16 @@ module _ {n : ℕ} {vs : List Vertex} (A : Accepted n vs) where
 
 -- ---- the names of two neighbours, as they are read
 
-module _ (vs : List Vertex) (p : ℕ) (x y : Name) (is_x : x ≡ name_of (at vs p)) (is_y : y ≡ name_of (at vs (p + 1))) where
-  sides : side vs p ≡ eqb x.round y.round and eqb x.author y.author
-  sides = ap₂ (λ (v w : Name). eqb v.round w.round and eqb v.author w.author) (sym is_x) (sym is_y)
+pub sides : (vs : List Vertex) (p : ℕ) (x y : Name) → x ≡ name_of (at vs p) → y ≡ name_of (at vs (p + 1)) → eqb x.round y.round && eqb x.author y.author ≡ side vs p
+unfolding ◌and◌
+sides vs p x y e f = rw (e, f)
 
-  pub other_rounds : x.round ≢ y.round → false ≡ side vs p
-  unfolding ◌and◌
-  other_rounds d = sym (sides ∙ rw (ne_eqb _ _ d))
+-- ---- one flag for each author: whether two neighbours among the first are of that author
 
-  pub same_rounds : x.round ≡ y.round → eqb x.author y.author ≡ side vs p
-  unfolding ◌and◌
-  same_rounds e = sym (sides ∙ rw (eq-eqb _ _ e))
+abbrev pub splits : List Vertex → ℕ → List Bool
+splits vs k = tabulate (λ a. any_to (pair vs a) k) 31
 
--- ---- one byte for each author: 1 if two neighbours among the first are of that author
-
-abbrev pub splits : List Vertex → ℕ → List ℕ
-splits vs k = tabulate (λ a. bit (any_to (pair vs a) k)) 31
-
-pub splits_start : (vs : List Vertex) → replicate 31 0 ≡ splits vs 0
+pub splits_start : (vs : List Vertex) → replicate 31 false ≡ splits vs 0
 unfolding tabulate any_to
 splits_start vs = refl
 
@@ -141,25 +156,25 @@ module _ (vs : List Vertex) (p : ℕ) (l : 0 < p) where
   step a = let e : p + 1 - 1 ≡ suc (p - 1) = omega arith in rw e
 
   -- author a is not theirs
-  same_byte : (a : ℕ) → pair vs a (p - 1) ≡ false → bit (any_to (pair vs a) (p - 1)) ≡ bit (any_to (pair vs a) (p + 1 - 1))
-  same_byte a e = ap bit (or_last _ ∙ ap (λ b. any_to (pair vs a) (p - 1) or b) (sym e) ∙ sym (step a))
+  same_flag : (a : ℕ) → pair vs a (p - 1) ≡ false → any_to (pair vs a) (p - 1) ≡ any_to (pair vs a) (p + 1 - 1)
+  same_flag a e = or_last _ ∙ ap (λ b. any_to (pair vs a) (p - 1) or b) (sym e) ∙ sym (step a)
 
   -- they are of two rounds or authors
   pub splits_apart : side vs (p - 1) ≡ false → splits vs (p - 1) ≡ splits vs (p + 1 - 1)
-  splits_apart e = tabulate_same _ _ 31 (λ a h. same_byte a (failed _ (λ t. not_both (and_left _ _ t) e)))
+  splits_apart e = tabulate_same _ _ 31 (λ a h. same_flag a (failed _ (λ t. not_both (and_left _ _ t) e)))
 
   -- they are of one
-  pub splits_more : (x : ℕ) → side vs (p - 1) ≡ true → x ≡ (at vs p).author → x < 31 → set (splits vs (p - 1)) x 1 ≡ splits vs (p + 1 - 1)
-  splits_more x e q h = set_tabulate _ _ 31 x 1 h here (λ a la d. same_byte a (failed _ (λ t. d (sym (eqb-true _ _ (and_right _ _ t)) ∙ theirs))))
+  pub splits_more : (x : ℕ) → side vs (p - 1) ≡ true → x ≡ (at vs p).author → x < 31 → set (splits vs (p - 1)) x true ≡ splits vs (p + 1 - 1)
+  splits_more x e q h = set_tabulate _ _ 31 x true h here (λ a la d. same_flag a (failed _ (λ t. d (sym (eqb-true _ _ (and_right _ _ t)) ∙ theirs))))
     where
       theirs : (at vs (p - 1 + 1)).author ≡ x
       theirs = let w : p - 1 + 1 ≡ p = omega arith in rw w (sym q)
 
-      here : 1 ≡ bit (any_to (pair vs x) (p + 1 - 1))
-      here = sym (ap bit (step x ∙ or_right _ _ (and_true _ _ e (eq-eqb _ _ theirs))))
+      here : true ≡ any_to (pair vs x) (p + 1 - 1)
+      here = sym (step x ∙ or_right _ _ (and_true _ _ e (eq-eqb _ _ theirs)))
 
-pub splits_end : {n : ℕ} {vs : List Vertex} → Accepted n vs → splits vs (length vs - 1) ≡ tabulate (λ a. bit (equivocates vs a)) 31
-splits_end {vs = vs} A = tabulate_same _ _ 31 (λ a h. ap bit (sym (split_is A a)))
+pub splits_end : {n : ℕ} {vs : List Vertex} → Accepted n vs → splits vs (length vs - 1) ≡ tabulate (equivocates vs) 31
+splits_end {vs = vs} A = tabulate_same _ _ 31 (λ a h. sym (split_is A a))
 
 -- the author in a record's name
 pub author_few : {n : ℕ} {vs : List Vertex} → Accepted n vs → (p : ℕ) (x : Name) → p < length vs → x ≡ name_of (at vs p) → x.author < 31
@@ -169,11 +184,27 @@ author_few {n} {vs} A p x l e =
 
 -- ---- how many they are
 
-one_bit : (b : Bool) → eqb (bit b) 1 ≡ b
-one_bit true = refl
-one_bit false = refl
+take_tabulate : (f : ℕ → Bool) (n k : ℕ) → n ≤ k → take n (tabulate f k) ≡ tabulate f n
+take_tabulate f n k l =
+    let e : length (tabulate f k) ≡ k = length_tabulate f k in
+    let short : length (take n (tabulate f k)) ≡ n = omega (arith, e, length-take-le n (tabulate f k) (omega (arith, e))) in
+    ext_get_or false _ _ (short ∙ sym (length_tabulate f n))
+    (λ i m. get_or-take n (tabulate f k) i false (omega (arith, short)) ∙ get_or_tabulate f k i false (omega (arith, short))
+    ∙ sym (get_or_tabulate f n i false (omega (arith, short))))
 
-pub ones_count : (vs : List Vertex) (n : ℕ) (split : List ℕ) → n ≤ 31 → split ≡ tabulate (λ a. bit (equivocates vs a)) 31
-    → count_to (λ a. eqb (get_or split a 0) 1) n ≡ equivocators n vs
+count_last : (xs : List Bool) (b : Bool) → count_by (λ x. x) (xs ++ b ∷ []) ≡ count_by (λ x. x) xs + bit b
+count_last xs b = sum_by-append (λ x. cond x 1 0) xs (b ∷ []) ∙ ap (λ k. count_by (λ x. x) xs + k) (one b)
+  where
+    one : (b : Bool) → count_by (λ x. x) (b ∷ []) ≡ bit b
+    one true = refl
+    one false = refl
+
+count_tabulate : (f : ℕ → Bool) (n : ℕ) → count_by (λ x. x) (tabulate f n) ≡ count_to f n
+unfolding count_to tabulate
+count_tabulate f zero = refl
+count_tabulate f (suc n) = count_last (tabulate f n) (f n) ∙ ap (λ k. k + bit (f n)) (count_tabulate f n)
+
+-- the flags of the first n authors tell how many equivocate
+pub set_count : (vs : List Vertex) (n : ℕ) (split : List Bool) → n ≤ 31 → split ≡ tabulate (equivocates vs) 31 → count_by (λ b. b) (take n split) ≡ equivocators n vs
 unfolding equivocators
-ones_count vs n split l e = count_same _ _ n (λ a h. rw (e, get_or_tabulate (λ a. bit (equivocates vs a)) 31 a 0 (omega arith)) (one_bit (equivocates vs a)))
+set_count vs n split l e = rw (e, take_tabulate (equivocates vs) n 31 l) (count_tabulate (equivocates vs) n)

@@ -189,3 +189,10 @@ module _ {n : ℕ} {vs : List Vertex} {step : StepRule} (A : Accepted n vs) (W :
   pub down_end : (p low : ℕ) (b : List ℕ) → p ≤ low → Down step vs a m p low b → MarkedDown step vs a m low b
   down_end zero low b h D = record { bytes = D.bytes; lower = D.lower; none_below = D.none_below }
   down_end (suc p) low b h D = down_end p low b (omega arith) (down_same p low b D (D.none_below p h))
+
+-- and so it is for the bytes before the leader was looked at
+pub down_whole : {n : ℕ} {vs : List Vertex} {step : StepRule} (A : Accepted n vs) (W : Walks step vs) {a : ℕ} (l : a < length vs) {m : List ℕ}
+    (room : length vs ≤ length m) (T : WrittenSoFar step vs m) {low : ℕ} {m' : List ℕ} (one : MarkedOne a a m low m') {p low' : ℕ} {b : List ℕ}
+    → p ≤ low' → Begun step vs a m' × Down step vs a m' p low' b × (length vs ≤ length m') → MarkedDown step vs a m low' b
+down_whole A W {a = a} l {m} room T {low} {m'} one {p} {low'} {b} h D =
+    down_of a l m room T low m' one low' b (down_end A W a l m' D.2 D.0 p low' b h D.1)

@@ -10,7 +10,7 @@ use native.Mathlib.Omega.{arith}
 use native.Mathlib.Nat.{le_refl, le_step}
 use native.Mathlib.Numerals.{add-one}
 use lib.Dec.{ltb, eqb}
-use lib.ListN.{length, get_or, drop, length-append, length-drop, drop_of_length-le}
+use lib.ListN.{length, get_or, take, drop, length-append, length-drop, drop_of_length-le}
 use lib.Seq.{drop-cons}
 use borrow.Author.Tests.{eqb-true, eq-eqb, ltb-true, ltb-false}
 use Rattle.folds.specs.Folds.{◌and◌, ◌or◌, bit, count_to, filter_to, member, bytes_over}
@@ -18,19 +18,23 @@ use Rattle.folds.proofs.Tests.{by_test, not_both, failed, and_left, or_cases, or
 use Rattle.folds.proofs.Laws.{count_low, count_cut, count_same}
 use Rattle.folds.proofs.Lists.{filter_length, filter_sound, filter_complete, member_sound, member_complete, length_tabulate}
 use Rattle.rules.specs.declared.Vertex.{Vertex}
-use Rattle.rules.specs.Record.{Edition, vertices, at, name_of}
-use Rattle.rules.specs.Decision.{Decision, undecided, skipped, committed, cell}
+use Rattle.stops.specs.declared.cell.Cell.{Cell}
+use Rattle.stops.specs.declared.cell.Cell.TheVariants.{Undecided, Skipped, Committed}
+use Rattle.stops.specs.Cells.{says}
+use Rattle.rules.specs.Record.{at, name_of}
+use Rattle.rules.specs.Decision.{Decision, undecided, skipped, committed, said}
 use Rattle.rules.specs.History.{StepRule, history}
 use Rattle.rules.specs.Decide.{Setting, highest, decisions, decision_at}
 use Rattle.rules.specs.Order.{not_yet, write_from, order}
 use Rattle.rules.specs.Settlement.{written_over, taken_bytes}
 use Rattle.rules.proofs.Accepted.{Accepted}
+use Rattle.rules.proofs.Cells.{said_cell}
 use Rattle.rules.proofs.Decide.{decisions_length, leads}
 use Rattle.rules.proofs.Slots.{Geometry}
-use Rattle.settlement.specs.Write.{Decided, places_over, written, WrittenSoFar, fresh, Led, Ordered}
+use Rattle.settlement.specs.Write.{Decided, written, WrittenSoFar, fresh, Led, Ordered}
 use Rattle.decide.proofs.Marked.{Walks, history_size, history_past, history_low, history_step}
 use Rattle.folds.proofs.Over.{over_at, over_length, over_same, over_over, over_none}
-use Rattle.settlement.proofs.Places.{places_over_lem}
+use Rattle.settlement.proofs.Places.{written_length, places_after}
 use Rattle.settlement.proofs.Writing.{filter_same}
 
 -- ---- the slots that are left
@@ -54,23 +58,6 @@ module _ (step : StepRule) (vs : List Vertex) (w : List ℕ) (ds : List (Decisio
         → write_from step vs w (drop s ds) ≡ write_from step vs (w ++ not_yet w (history step vs a)) (drop (s + 1) ds)
     unfolding write_from
     rest_commit a e = rw (add-one s, drop-cons ds s undecided l, e)
-
--- ---- a decision by its cell
-
-pub cell_undecided : (d : Decision ℕ) → cell d ≡ 0 → d ≡ undecided
-cell_undecided undecided e = refl
-cell_undecided skipped e = absurd (omega arith)
-cell_undecided (committed a) e = absurd (omega arith)
-
-pub cell_skipped : (d : Decision ℕ) → cell d ≡ 1 → d ≡ skipped
-cell_skipped undecided e = absurd (omega arith)
-cell_skipped skipped e = refl
-cell_skipped (committed a) e = absurd (omega arith)
-
-pub cell_committed : (d : Decision ℕ) (c : ℕ) → c ≡ cell d → c ≢ 0 → c ≢ 1 → d ≡ committed (c - 2)
-cell_committed undecided c e z o = absurd (z e)
-cell_committed skipped c e z o = absurd (o e)
-cell_committed (committed a) c e z o = ap committed (omega arith)
 
 -- ---- members
 
@@ -131,10 +118,6 @@ pub record Upto (C : Setting) (n : ℕ) (vs : List Vertex) (o m : List ℕ) (s c
   pub kept : length m' ≡ length m
   pub kept_places : length o' ≡ length o
 
--- as many places as before
-written_length : (v old : List ℕ) → length v ≤ length old → length (written_over v old) ≡ length old
-written_length v old l = simp (length-append, length-drop) (omega arith)
-
 bit_one : (b : Bool) → eqb (bit b) 1 ≡ b
 bit_one true = refl
 bit_one false = refl
@@ -177,8 +160,14 @@ module _ {C : Setting} {n : ℕ} {vs : List Vertex} {o m : List ℕ} {s count : 
     closed = λ p q lp lq e r. eqb-true _ _ (written_is q lq ∙ U.closed p q lp lq (sym (written_is p lp) ∙ eq-eqb _ _ e) r);
   }
 
-  pub upto_count : count ≡ count_to (written m') (length vs)
+  upto_count : count ≡ count_to (written m') (length vs)
   upto_count = U.counted ∙ U.once ∙ count_same _ _ (length vs) (λ q lq. sym (written_is q lq))
+
+  -- the places that are left suffice for what is not written yet
+  pub upto_room : (count ≤ length o') × (length vs ≤ count_to (written m') (length vs) + length (drop count o'))
+  upto_room =
+      let low = count_low (written m') (length vs) in
+      (omega (arith, upto_count, low, U.kept_places), omega (arith, upto_count, U.kept_places, length-drop count o'))
 
   -- the next one is skipped
   pub upto_skip : s < length (decisions C n vs) → decision_at ds s ≡ skipped → Upto C n vs o m (s + 1) count o' m'
@@ -197,7 +186,7 @@ module _ {C : Setting} {n : ℕ} {vs : List Vertex} {o m : List ℕ} {s count : 
 
   -- it is committed with the vertex at a, whose history is written
   module _ (a : ℕ) (la : a < length vs) (l : s < length (decisions C n vs)) (e : decision_at ds s ≡ committed a)
-      (count' : ℕ) (o'' m'' : List ℕ) (L : Led C.step vs a count o' m' count' o'' m'') where
+      (more : ℕ) (left m'' : List ℕ) (L : Led C.step vs a (drop count o') m' more left m'') where
     abbrev belongs : ℕ → Bool
     belongs q = get_or (history C.step vs a) q false
 
@@ -233,10 +222,10 @@ module _ {C : Setting} {n : ℕ} {vs : List Vertex} {o m : List ℕ} {s count : 
     long : length next ≡ length w + length (fresh C.step vs a m')
     long = length-append w _ ∙ ap (λ x. length w + length x) (sym fresh_is)
 
-    places_next : o'' ≡ written_over next o
+    places_next : take count o' ++ left ≡ written_over next o
     places_next =
-        L.places ∙ ap₂ (λ c x. places_over c (fresh C.step vs a m') x) U.counted U.places
-        ∙ ap (λ x. places_over (length w) x (written_over w o)) fresh_is ∙ places_over_lem w _ o
+        ap (λ x. take count o' ++ x) (L.places ∙ ap (λ f. written_over f (drop count o')) fresh_is)
+        ∙ ap₂ (λ k x. take k x ++ written_over (not_yet w (history C.step vs a)) (drop k x)) U.counted U.places ∙ places_after w _ o
 
     bytes_next : m'' ≡ bytes_over (λ q. bit (member q next)) (length vs) m
     bytes_next =
@@ -255,7 +244,7 @@ module _ {C : Setting} {n : ℕ} {vs : List Vertex} {o m : List ℕ} {s count : 
         in
         omega (arith, long, U.once)
 
-    pub upto_commit : Upto C n vs o m (s + 1) count' o'' m''
+    pub upto_commit : Upto C n vs o m (s + 1) (count + more) (take count o' ++ left) m''
     upto_commit = record {
       so_far = next;
       rest = sym (rest_commit C.step vs w ds s l a e) ∙ U.rest;
@@ -300,18 +289,27 @@ module _ {C : Setting} {n : ℕ} {vs : List Vertex} {o m₀ m : List ℕ} {s cou
   pub upto_end : length (decisions C n vs) ≤ s → Ordered C n vs o m₀ count o' m'
   upto_end h = ordered (rest_end C.step vs U.so_far (decisions C n vs) s h)
 
--- ---- the leader vertex of a cell
+-- ---- what a cell says
 
-module _ (C : Setting) where
-  pub slot_low : (n : ℕ) (vs : List Vertex) {s : ℕ} → s < C.slots.up_to (highest vs) → s < length (decisions C n vs)
-  slot_low n vs l = rw (decisions_length C n vs) l
+-- one that says neither of the others
+pub says_skipped : (x : Cell) → x ≢ Undecided → ((p : ℕ) → x ≢ Committed p) → says x ≡ skipped
+says_skipped Undecided d e = absurd (d refl)
+says_skipped Skipped d e = refl
+says_skipped (Committed p) d e = absurd (e p refl)
 
-  pub cell_leader : Geometry C.slots → {n : ℕ} {vs : List Vertex} → Accepted n vs → (s c : ℕ) → c ≡ cell (decision_at (decisions C n vs) s)
-      → c ≢ 0 → c ≢ 1 → (decision_at (decisions C n vs) s ≡ committed (c - 2)) × (c - 2 < length vs)
-  cell_leader G A s c e z o = let d = cell_committed _ c e z o in (d, (leads C G.later A s (c - 2) d).0)
+module _ (C : Setting) (n : ℕ) (vs : List Vertex) (s : ℕ) where
+  pub slot_low : s < C.slots.up_to (highest vs) → s < length (decisions C n vs)
+  slot_low l = rw (decisions_length C n vs) l
 
--- where a cell tells that its slot is undecided, the order ends
-pub upto_open : {C : Setting} {E : Edition} {n : ℕ} {t cells o m : List ℕ} {s count : ℕ} {o' m' : List ℕ} → Decided C E n t cells o m
-    → Upto C n (vertices E t) o m s count o' m' → s < C.slots.up_to (highest (vertices E t)) → get_or cells s 0 ≡ 0
-    → Ordered C n (vertices E t) o m count o' m'
-upto_open {C} {s = s} D U l e = upto_stop D.cleared U (slot_low C _ _ l) (cell_undecided _ (sym (D.in_cells.held s zero-le l) ∙ e))
+  -- the decision of its slot
+  pub slot_says : {cells o m : List ℕ} → Decided C n vs cells o m → s < C.slots.up_to (highest vs) → said (get_or cells s 0) ≡ decision_at (decisions C n vs) s
+  slot_says D l = ap said (D.in_cells.held s zero-le l) ∙ said_cell (decision_at (decisions C n vs) s)
+
+  -- a committed slot's vertex is one of the table
+  pub leader_low : Geometry C.slots → Accepted n vs → (a : ℕ) → decision_at (decisions C n vs) s ≡ committed a → a < length vs
+  leader_low G A a e = (leads C G.later A s a e).0
+
+  -- where a cell says that its slot is undecided, the order ends
+  pub upto_open : {cells o m : List ℕ} {count : ℕ} {o' m' : List ℕ} → Decided C n vs cells o m → Upto C n vs o m s count o' m'
+      → s < C.slots.up_to (highest vs) → said (get_or cells s 0) ≡ undecided → Ordered C n vs o m count o' m'
+  upto_open D U l e = upto_stop D.cleared U (slot_low l) (sym (slot_says D l) ∙ e)

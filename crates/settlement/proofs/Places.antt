@@ -1,35 +1,34 @@
--- Order places that are written from a count on.
+-- Order places that are written from the front, one more, and some more in the places that are left.
 -- Assumes nothing.
-use Prim.Native.Nat.{ℕ, ◌+◌, ◌≤◌, ◌<◌}
+use Prim.Native.Nat.{ℕ, ◌+◌, ◌-◌, ◌≤◌, ◌<◌}
 use mathlib.Core.Path.{◌≡◌, refl, sym, ap, ◌∙◌}
-use mathlib.Core.List.{List, [], ◌∷◌, ◌++◌, append_assoc}
+use mathlib.Core.List.{List, [], ◌∷◌, ◌++◌, append_assoc, append-nil}
 use native.Mathlib.Omega.{arith}
-use lib.ListN.{length, set, take, drop, length-append, length-take, take-append-drop}
-use lib.Seq.{take_at, drop-append-add, drop-drop}
+use lib.ListN.{length, set, take, drop, length-append, length-drop, drop_of_length-le}
+use lib.Seq.{take_at, drop_at, drop-drop}
+use borrow.Rule.Slice.PartMut.{put_mid}
 use Rattle.folds.proofs.Lists.{put_next}
-use Rattle.settlement.specs.Write.{places_over}
+use Rattle.rules.specs.Settlement.{written_over}
 
--- ---- places that are written from `count` on
+-- as many places as before
+pub written_length : (v old : List ℕ) → length v ≤ length old → length (written_over v old) ≡ length old
+written_length v old l = simp (length-append, length-drop) (omega arith)
 
-module _ (count : ℕ) (new old : List ℕ) (w : count ≤ length old) where
-  pub places_next : (v : ℕ) → count + length new < length old → set (places_over count new old) (count + length new) v ≡ places_over count (new ++ v ∷ []) old
-  unfolding places_over
-  places_next v l =
-      let e : count + length new + 1 ≡ count + length (new ++ v ∷ []) = simp length-append (omega arith) in
-      let at-end : length (take count old ++ new) ≡ count + length new = simp (length-append, length-take) (omega arith) in
-      ap (λ b. set b (count + length new) v) (sym (append_assoc (take count old) new (drop (count + length new) old)))
-      ∙ put_next (take count old ++ new) old (count + length new) v 0 at-end l
-      ∙ rw (e, append_assoc, append_assoc, ← append_assoc new (v ∷ []))
+pub places_next : (new old : List ℕ) (v : ℕ) → length new < length old → set (written_over new old) (length new) v ≡ written_over (new ++ v ∷ []) old
+places_next new old v l =
+    let e : length new + 1 ≡ length (new ++ v ∷ []) = simp length-append (omega arith) in
+    put_next new old (length new) v 0 refl l ∙ ap (λ k. (new ++ v ∷ []) ++ drop k old) e
 
-pub places_none : (count : ℕ) (old : List ℕ) → old ≡ places_over count [] old
-unfolding places_over
-places_none count old = let e : count + 0 ≡ count = omega arith in rw e (sym (take-append-drop count old))
-
--- places written from the end of those written before
-pub places_over_lem : (w f old : List ℕ) → places_over (length w) f (w ++ drop (length w) old) ≡ (w ++ f) ++ drop (length (w ++ f)) old
-unfolding places_over
-places_over_lem w f old =
-    ap (λ x. x ++ (f ++ drop (length w + length f) (w ++ drop (length w) old))) (take_at w (drop (length w) old) (length w) refl)
-    ∙ ap (λ x. w ++ (f ++ x)) (drop-append-add w (drop (length w) old) (length f) ∙ drop-drop (length f) (length w) old)
+pub places_after : (w f old : List ℕ) → take (length w) (written_over w old) ++ written_over f (drop (length w) (written_over w old)) ≡ written_over (w ++ f) old
+places_after w f old =
+    ap (λ x. x ++ written_over f (drop (length w) (written_over w old))) (take_at w (drop (length w) old) (length w) refl)
+    ∙ ap (λ x. w ++ written_over f x) (drop_at w (drop (length w) old) (length w) refl)
+    ∙ ap (λ x. w ++ (f ++ x)) (drop-drop (length f) (length w) old)
     ∙ sym (append_assoc w f _)
     ∙ ap (λ k. (w ++ f) ++ drop k old) (sym (length-append w f))
+
+-- the places from `count` on, as they come back
+pub places_back : (count : ℕ) (old left : List ℕ) → put_mid count (length old - count) old left ≡ take count old ++ left
+places_back count old left =
+    let none : drop (length old - count) (drop count old) ≡ [] = drop_of_length-le (drop count old) {i = length old - count} (omega (arith, length-drop count old)) in
+    ap (λ x. take count old ++ (left ++ x)) none ∙ ap (λ x. take count old ++ x) (append-nil left)

@@ -7,31 +7,34 @@ use mathlib.Core.List.{List, [], ◌∷◌, ◌++◌, map}
 use native.Mathlib.Omega.{arith}
 use native.Mathlib.Nat.{le_refl, le_of_suc-le-suc, not-suc-le-zero}
 use lib.Dec.{eqb}
-use lib.ListN.{length, get_or, drop, length-append, length-drop, length-map, get_or-append, get_or-map}
+use lib.ListN.{length, get_or, take, drop, length-map, get_or-map}
 use lib.Seq.{drop_at}
 use borrow.Author.Tests.{ne_eqb, ltb-false}
+use Rattle.std.proofs.lemmas.List.{length-take-le, get_or-take}
 use Rattle.folds.specs.Folds.{first_to, tabulate, bytes_over}
 use Rattle.folds.proofs.Tests.{or_neither}
 use Rattle.folds.proofs.Laws.{First, first_by, first_is}
 use Rattle.folds.proofs.Lists.{length_tabulate}
 use Rattle.rules.specs.declared.Vertex.{Vertex}
 use Rattle.rules.specs.declared.Refusal.{Refusal}
-use Rattle.rules.specs.declared.Checked.TheVariants.{Passed, Refused}
+use Rattle.std.specs.declared.result.Result.TheVariants.{Ok, Err}
 use Rattle.rules.specs.declared.Counts.{Counts}
-use Rattle.rules.specs.declared.Outcome.TheVariants as outcome
 use Rattle.rules.specs.declared.Settlement.{Settlement}
 use Rattle.rules.specs.Record.{first, records, vertices}
 use Rattle.rules.specs.Check.{check}
 use Rattle.rules.specs.Decision.{Decision, undecided, skipped, committed, cell}
 use Rattle.rules.specs.Decide.{box_setting, highest, decisions, decision_at}
 use Rattle.rules.specs.Order.{order, first_undecided}
-use Rattle.rules.specs.Refusals.{gives, passed, outcome_tells}
+use Rattle.rules.specs.Refusals.{gives, passed, tells}
 use Rattle.rules.specs.Settlement.{Buffers, lent, written_over, taken_bytes, too_short, lent_check, equivocators, counts_of, settled, settle_if, settle}
 use Rattle.rules.proofs.Refusals.{then_both, when_passed}
 use Rattle.rules.proofs.Records.{vertices_length}
 use Rattle.rules.proofs.Decide.{decisions_length}
 use Rattle.folds.proofs.Over.{over_over, over_length}
+use Rattle.decide.specs.Ready.{Sound}
 use Rattle.decide.proofs.Sound.{sound}
+use Rattle.rules.proofs.Cells.{place_at}
+use Rattle.settlement.proofs.Places.{written_length}
 use Rattle.settlement.specs.Write.{Decided}
 use Rattle.decide.specs.Promise.{DecidesTo, cells_after, taken_after}
 use Rattle.settlement.specs.Promise.{SettlesTo}
@@ -73,21 +76,18 @@ first_open_is s (committed a ∷ ds) = further s (committed a) ds refl (ne_eqb (
 -- ---- the cells
 
 -- a cell holds the decision of its slot
-pub cell_at : (ds : List (Decision ℕ)) (old : List ℕ) (t : ℕ) → t < length ds → get_or (written_over (map cell ds) old) t 0 ≡ cell (decision_at ds t)
-cell_at ds old t l = get_or-append (map cell ds) _ 0 t (rw (length-map ds cell) l) ∙ get_or-map cell ds t undecided
-
-pub cells_length : (ds : List (Decision ℕ)) (old : List ℕ) → length ds ≤ length old → length (written_over (map cell ds) old) ≡ length old
-cells_length ds old l = simp (length-append, length-drop, length-map) (omega arith)
+cell_at : (ds : List (Decision ℕ)) (old : List ℕ) (t : ℕ) → t < length ds → get_or (written_over (map cell ds) old) t 0 ≡ cell (decision_at ds t)
+cell_at ds old t l = place_at (map cell ds) old t (rw (length-map ds cell) l) ∙ get_or-map cell ds t undecided
 
 -- the first cell that is 0 is that of the first undecided round
-pub open_cell : (ds : List (Decision ℕ)) (cells : List ℕ) (top : ℕ) → top ≡ length ds → ((t : ℕ) → t < top → get_or cells t 0 ≡ cell (decision_at ds t))
-    → 1 + first_to (λ t. eqb (get_or cells t 0) 0) top ≡ first_undecided 1 ds
-open_cell ds cells top e h = ap (λ m. 1 + m) (first_by _ top F.place found) ∙ sym F.is
+pub open_cell : (ds : List (Decision ℕ)) (cells : List ℕ) → length cells ≡ length ds → ((t : ℕ) → t < length cells → get_or cells t 0 ≡ cell (decision_at ds t))
+    → 1 + first_to (λ t. eqb (get_or cells t 0) 0) (length cells) ≡ first_undecided 1 ds
+open_cell ds cells e h = ap (λ m. 1 + m) (first_by _ (length cells) F.place found) ∙ sym F.is
   where
     F : FirstOpen 1 ds
     F = first_open_is 1 ds
 
-    found : First (λ t. eqb (get_or cells t 0) 0) top F.place
+    found : First (λ t. eqb (get_or cells t 0) 0) (length cells) F.place
     found = record {
       within = omega (arith, F.first_open.within);
       before = λ i l. ap (λ x. eqb x 0) (h i (omega (arith, F.first_open.within))) ∙ F.first_open.before i l;
@@ -105,15 +105,15 @@ module _ (n : ℕ) (t : List ℕ) (b : Buffers) where
   vs = vertices first t
 
   -- a refusal leaves all as it was
-  pub refused_to : (x : Settlement) (r : Refusal) (cells taken : List ℕ) → DecidesTo n t b (Refused r) cells taken → x.outcome ≡ outcome.Refused r
+  pub refused_to : (x : Settlement) (r : Refusal) (cells taken : List ℕ) → DecidesTo n t b (Err r) cells taken → x.outcome ≡ Err r
       → SettlesTo n t b x (lent cells b.order taken)
   unfolding settle settle_if cells_after taken_after
   refused_to x r cells taken D o =
       let e = sym D.answer in
-      record { outcome = rw e (ap outcome_tells o); cells = rw e D.in_cells; order = rw e; taken = rw e D.in_taken }
+      record { outcome = rw e (ap tells o); cells = rw e D.in_cells; order = rw e; taken = rw e D.in_taken }
 
   -- a settled table
-  module _ (cells taken : List ℕ) (D : DecidesTo n t b Passed cells taken) where
+  module _ (cells taken : List ℕ) (D : DecidesTo n t b (Ok tt) cells taken) where
     abbrev ds : List (Decision ℕ)
     ds = decisions (box_setting n) n vs
 
@@ -160,16 +160,25 @@ module _ (n : ℕ) (t : List ℕ) (b : Buffers) where
     held : (s : ℕ) → s < highest vs → get_or cells s 0 ≡ cell (decision_at ds s)
     held s l = ap (λ c. get_or c s 0) decided_cells ∙ cell_at ds b.cells s (rw (decisions_length (box_setting n) n vs) l)
 
-    wide : highest vs ≤ length cells
-    wide = let e = decisions_length (box_setting n) n vs in omega (arith, slots, ap length decided_cells ∙ cells_length ds b.cells (omega (arith, slots)))
+    pub wide : highest vs ≤ length cells
+    wide = let e = decisions_length (box_setting n) n vs in omega (arith, slots, ap length decided_cells ∙ written_length (map cell ds) b.cells (rw length-map (omega (arith, slots))))
 
-    -- all that the order is written from
-    pub decided : Decided (box_setting n) first n t cells b.order taken
-    decided = record {
-      fits = record { ready = record { sound = sound first n t passes; room = room }; places = places };
-      in_cells = record { slots = wide; held = λ s _ l. held s l };
-      cleared = none_taken;
-    }
+    -- the table is one that passed
+    pub passed_sound : Sound first n t
+    passed_sound = sound first n t passes
+
+    module _ (h : ℕ) (e : h ≡ highest vs) where
+      pub rounds : length (take h cells) ≡ h
+      rounds = length-take-le h cells (omega (arith, wide))
+
+      -- all that the order is written from
+      pub decided : Decided (box_setting n) n vs (take h cells) b.order taken
+      decided = record {
+        in_cells = record { slots = omega (arith, rounds); held = λ s _ l. get_or-take h cells s 0 (omega arith) ∙ held s l };
+        cleared = none_taken;
+        places = places;
+        room = room;
+      }
 
     -- those past the records are as before
     past_records : (w : List ℕ) → written_over (taken_bytes w (length vs)) taken ≡ written_over (taken_bytes w (length vs)) b.taken
@@ -181,7 +190,7 @@ module _ (n : ℕ) (t : List ℕ) (b : Buffers) where
         ∙ drop_at (tabulate (λ p. 0) (records first t)) (drop (records first t) b.taken) _ (length_tabulate _ (records first t) ∙ sym same)
         ∙ ap (λ j. drop j b.taken) (sym same))
 
-    pub settled_to : (x : Settlement) (order' taken' : List ℕ) (counts : Counts) → x.outcome ≡ outcome.Settled counts
+    pub settled_to : (x : Settlement) (order' taken' : List ℕ) (counts : Counts) → x.outcome ≡ Ok counts
         → counts ≡ counts_of n vs ds (order (box_setting n) n vs)
         → order' ≡ written_over (order (box_setting n) n vs) b.order → taken' ≡ written_over (taken_bytes (order (box_setting n) n vs) (length vs)) taken
         → SettlesTo n t b x (lent cells order' taken')
@@ -189,7 +198,7 @@ module _ (n : ℕ) (t : List ℕ) (b : Buffers) where
     settled_to x order' taken' counts e q e2 e3 =
         let fits = sym D.answer in
         record {
-          outcome = rw fits (ap outcome_tells e ∙ ap gives q);
+          outcome = rw fits (ap tells e ∙ ap gives q);
           cells = rw fits decided_cells;
           order = rw fits e2;
           taken = rw fits (e3 ∙ past_records _);

@@ -5,7 +5,7 @@ use mathlib.Core.Path.{◌≡◌, sym, ◌∙◌}
 use mathlib.Core.List.{List}
 use Rattle.rules.specs.declared.Settlement.{Settlement}
 use Rattle.rules.specs.Settlement.{Buffers, lent}
-use Rattle.rules.proofs.Refusals.{outcome_unique}
+use Rattle.rules.proofs.Refusals.{tells_unique}
 use Rattle.rules.proofs.Only.{Only}
 use Rattle.settlement.specs.Promise.{SettlesTo}
 use Rattle.settlement.proofs.settle.Kinds as settle_kinds
@@ -15,7 +15,7 @@ use Rattle.settlement.proofs.settle.Reads as settle
 settles_once : {n : ℕ} {t : List ℕ} {before after other : Buffers} {x y : Settlement} → SettlesTo n t before x after → SettlesTo n t before y other
     → (x ≡ y) × (after ≡ other)
 settles_once {x = x} {y = y} p q = (
-  λ i. record { outcome = outcome_unique x.outcome y.outcome (p.outcome ∙ sym q.outcome) i },
+  λ i. record { outcome = tells_unique x.outcome y.outcome (p.outcome ∙ sym q.outcome) i },
   λ i. record { cells = (p.cells ∙ sym q.cells) i; order = (p.order ∙ sym q.order) i; taken = (p.taken ∙ sym q.taken) i },
 )
 

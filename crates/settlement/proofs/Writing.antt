@@ -1,6 +1,6 @@
 -- What is due is written: the places, the bytes and the count, for one leader vertex more.
 -- Assumes nothing.
-use Prim.Native.Nat.{ℕ, zero, suc, ◌+◌, ◌-◌, ◌≤◌, ◌<◌}
+use Prim.Native.Nat.{ℕ, zero, suc, ◌+◌, ◌-◌, ◌≤◌, ◌<◌, zero-le}
 use mathlib.Core.Path.{◌≡◌, refl, sym, ap, ◌∙◌}
 use mathlib.Core.Logic.{⊎_elim}
 use mathlib.Core.Bool.{Bool, true, false, not, cond}
@@ -18,11 +18,12 @@ use Rattle.folds.proofs.Laws.{count_yes, count_no, count_and, count_witness}
 use Rattle.folds.proofs.Lists.{filter_yes, filter_no, filter_length, length_tabulate}
 use Rattle.rules.specs.declared.Vertex.{Vertex}
 use Rattle.rules.specs.History.{StepRule, history}
+use Rattle.rules.specs.Settlement.{written_over}
 use Rattle.rules.proofs.Accepted.{Accepted}
-use Rattle.settlement.specs.Write.{places_over, written, due, byte_of, due_from, MarkedDown, fresh, Led}
+use Rattle.settlement.specs.Write.{written, due, byte_of, due_from, MarkedDown, fresh, Led}
 use Rattle.folds.proofs.Over.{over_at, over_length, over_same, over_over, over_next, over_keep, over_none}
 use Rattle.decide.proofs.Marked.{Walks, history_past, marked_history}
-use Rattle.settlement.proofs.Places.{places_next, places_none}
+use Rattle.settlement.proofs.Places.{places_next}
 
 -- ---- what is due is written
 
@@ -45,27 +46,28 @@ count_room t i k l e = omega (arith, count_yes t i (count_to t i) e refl, count_
 abbrev pub done_at : List ℕ → ℕ → ℕ
 done_at m q = cond (due m q) 1 (get_or m q 0)
 
--- Of the positions below p, what is due is written, from place `count` on.
-pub record Put (m o : List ℕ) (count p c : ℕ) (m' o' : List ℕ) : Type 0 where
-  pub counted : c ≡ count + count_to (due m) p
-  pub places : o' ≡ places_over count (filter_to (due m) p) o
+-- Of the positions below p, what is due is written, from the first place on.
+pub record Put (m o : List ℕ) (p c : ℕ) (m' o' : List ℕ) : Type 0 where
+  pub counted : c ≡ count_to (due m) p
+  pub few : c ≤ p
+  pub places : o' ≡ written_over (filter_to (due m) p) o
   pub bytes : m' ≡ bytes_over (done_at m) p m
   pub kept : length m' ≡ length m
   pub kept_places : length o' ≡ length o
 
-pub put_start : (m o : List ℕ) (count low : ℕ) → low ≤ length m → ((q : ℕ) → q < low → get_or m q 0 ≡ 2 → ⊥) → Put m o count low count m o
-put_start m o count low l h =
+pub put_start : (m o : List ℕ) (low : ℕ) → low ≤ length m → ((q : ℕ) → q < low → get_or m q 0 ≡ 2 → ⊥) → Put m o low 0 m o
+put_start m o low l h =
     let none : filter_to (due m) low ≡ [] = filter_none (due m) low (λ i li. ne_eqb _ _ (h i li)) in
-    let zero_is : 0 ≡ count_to (due m) low = ap length (sym none) ∙ filter_length (due m) low in
     record {
-      counted = omega arith;
-      places = places_none count o ∙ ap (λ w. places_over count w o) (sym none);
+      counted = ap length (sym none) ∙ filter_length (due m) low;
+      few = zero-le;
+      places = ap (λ w. written_over w o) (sym none);
       bytes = over_none (done_at m) low m l (λ q lq. rw (ne_eqb _ _ (h q lq)));
       kept = refl;
       kept_places = refl;
     }
 
-module _ (m o : List ℕ) (count p c : ℕ) (m' o' : List ℕ) (P : Put m o count p c m' o') where
+module _ (m o : List ℕ) (p c : ℕ) (m' o' : List ℕ) (P : Put m o p c m' o') where
   -- the byte at p is as before
   pub put_byte : p < length m → get_or m' p 0 ≡ get_or m p 0
   unfolding bytes_over
@@ -73,34 +75,38 @@ module _ (m o : List ℕ) (count p c : ℕ) (m' o' : List ℕ) (P : Put m o coun
       ap (λ b. get_or b p 0) (P.bytes ∙ ap (λ d. tabulate (done_at m) p ++ d) (drop-cons m p 0 l))
       ∙ get_or_at (tabulate (done_at m) p) (get_or m p 0) (drop (suc p) m) 0 p (length_tabulate (done_at m) p)
 
-  pub put_no : p < length m → (get_or m' p 0 ≡ 2 → ⊥) → Put m o count (p + 1) c m' o'
+  pub put_no : p < length m → (get_or m' p 0 ≡ 2 → ⊥) → Put m o (p + 1) c m' o'
   put_no l d =
       let t : due m p ≡ false = ne_eqb _ _ (λ e. d (put_byte l ∙ e)) in
       record {
-        counted = P.counted ∙ ap (λ k. count + k) (count_no (due m) p (count_to (due m) p) t refl);
-        places = P.places ∙ ap (λ w. places_over count w o) (sym (filter_no (due m) p t));
+        counted = P.counted ∙ count_no (due m) p (count_to (due m) p) t refl;
+        few = omega (arith, P.few);
+        places = P.places ∙ ap (λ w. written_over w o) (sym (filter_no (due m) p t));
         bytes = P.bytes ∙ over_keep (done_at m) p m l (rw t);
         kept = P.kept;
         kept_places = P.kept_places;
       }
 
-  pub put_yes : p < length m → count ≤ length o → c < length o → get_or m' p 0 ≡ 2 → Put m o count (p + 1) (c + 1) (set m' p 1) (set o' c p)
-  put_yes l w r e =
-      let t : due m p ≡ true = eq-eqb _ _ (sym (put_byte l) ∙ e) in
-      let long : length (filter_to (due m) p) ≡ count_to (due m) p = filter_length (due m) p in
-      let end : c ≡ count + length (filter_to (due m) p) = omega (arith, P.counted) in
-      record {
-        counted = omega (arith, P.counted, count_yes (due m) p (count_to (due m) p) t refl);
-        places = ap (λ b. set b c p) P.places ∙ ap (λ k. set (places_over count (filter_to (due m) p) o) k p) end
-            ∙ places_next count (filter_to (due m) p) o w p (omega arith) ∙ ap (λ b. places_over count b o) (sym (filter_yes (due m) p t));
-        bytes = ap (λ b. set b p 1) P.bytes ∙ over_next (done_at m) p m 1 l (rw t);
-        kept = length-set m' p 1 ∙ P.kept;
-        kept_places = length-set o' c p ∙ P.kept_places;
-      }
+  -- one that is due has a place
+  module _ (a : ℕ) (h : p ≤ a) (l : a < length m) (r : count_to (due m) (a + 1) ≤ length o) (e : get_or m' p 0 ≡ 2) where
+    is_due : due m p ≡ true
+    is_due = eq-eqb _ _ (sym (put_byte (omega arith)) ∙ e)
 
-  -- there is room for it
-  pub put_room : (a : ℕ) → p ≤ a → a < length m → count + count_to (due m) (a + 1) ≤ length o → get_or m' p 0 ≡ 2 → c < length o
-  put_room a h l r e = omega (arith, P.counted, count_room (due m) p (a + 1) (omega arith) (eq-eqb _ _ (sym (put_byte (omega arith)) ∙ e)))
+    pub put_room : c < length o
+    put_room = omega (arith, P.counted, count_room (due m) p (a + 1) (omega arith) is_due)
+
+    pub put_yes : Put m o (p + 1) (c + 1) (set m' p 1) (set o' c p)
+    put_yes =
+        let end : c ≡ length (filter_to (due m) p) = P.counted ∙ sym (filter_length (due m) p) in
+        record {
+          counted = omega (arith, P.counted, count_yes (due m) p (count_to (due m) p) is_due refl);
+          few = omega (arith, P.few);
+          places = ap (λ b. set b c p) P.places ∙ ap (λ k. set (written_over (filter_to (due m) p) o) k p) end
+              ∙ places_next (filter_to (due m) p) o p (omega (arith, put_room)) ∙ ap (λ w. written_over w o) (sym (filter_yes (due m) p is_due));
+          bytes = ap (λ b. set b p 1) P.bytes ∙ over_next (done_at m) p m 1 (omega arith) (rw is_due);
+          kept = length-set m' p 1 ∙ P.kept;
+          kept_places = length-set o' c p ∙ P.kept_places;
+        }
 
 -- ---- one leader vertex more
 
@@ -159,20 +165,20 @@ module _ {n : ℕ} {vs : List Vertex} {step : StepRule} (A : Accepted n vs) (W :
   marked_length = ap length D.bytes ∙ over_length _ (length vs) m room
 
   -- there is room for what is due
-  pub led_room : (count : ℕ) → count ≡ count_to (written m) (length vs) → count + count_to (due m₁) (a + 1) ≤ length vs
-  led_room count e =
+  pub led_room : count_to (written m) (length vs) + count_to (due m₁) (a + 1) ≤ length vs
+  led_room =
       let apart =
       count_apart (written m) (due m₁) (length vs) (λ q lq w d. not_both w (not_true _ (and_right _ _ (sym (due_is_fresh q lq) ∙ d)))) in
       omega (arith, count_up (due m₁) (a + 1) (length vs) (omega arith), apart)
 
-  pub led : (count r : ℕ) (o o' m₂ : List ℕ) → o' ≡ places_over count (filter_to (due m₁) (a + 1)) o → m₂ ≡ bytes_over (done_at m₁) (a + 1) m₁
-      → r ≡ count + count_to (due m₁) (a + 1) → Led step vs a count o m r o' m₂
-  led count r o o' m₂ p b e = record {
-    places = p ∙ ap (λ w. places_over count w o) due_list;
+  pub led : (r : ℕ) (o o' m₂ : List ℕ) → o' ≡ written_over (filter_to (due m₁) (a + 1)) o → m₂ ≡ bytes_over (done_at m₁) (a + 1) m₁
+      → r ≡ count_to (due m₁) (a + 1) → Led step vs a o m r o' m₂
+  led r o o' m₂ p b e = record {
+    places = p ∙ ap (λ w. written_over w o) due_list;
     bytes =
         b ∙ whole ∙ ap (bytes_over (done_at m₁) (length vs)) D.bytes ∙ over_over _ (length vs) m _
         ∙ over_same _ (length vs) m _ (λ q lq. ap (λ x. cond (eqb x 2) 1 x) (marked_byte q lq) ∙ done_bit (written m q) (belongs q));
-    counted = e ∙ ap (λ k. count + k) (sym (filter_length (due m₁) (a + 1)) ∙ ap length due_list);
+    counted = e ∙ sym (filter_length (due m₁) (a + 1)) ∙ ap length due_list;
   }
     where
       past : (q : ℕ) → a + 1 ≤ q → q < length vs → done_at m₁ q ≡ get_or m₁ q 0

@@ -1,30 +1,23 @@
 -- The taken bytes while the order is written: 1 written, 2 to be written next, 0 neither.
 -- Assumes nothing.
-use Rattle.std.specs.Prelude.{ℕ, suc, ◌+◌, ◌≤◌, ◌<◌, ◌≡◌, Bool, true, false, not, cond, List, ◌++◌, length, get_or, set, take, drop, eqb}
+use Rattle.std.specs.Prelude.{ℕ, suc, ◌+◌, ◌≤◌, ◌<◌, ◌≡◌, Bool, true, false, not, cond, List, length, get_or, set, eqb}
 use Rattle.folds.specs.Folds.{◌and◌, ◌or◌, bit, count_to, filter_to, bytes_over}
 use Rattle.rules.specs.declared.Vertex.{Vertex}
-use Rattle.rules.specs.Record.{Edition, vertices, at, name_of}
+use Rattle.rules.specs.Record.{at, name_of}
 use Rattle.rules.specs.History.{StepRule, history}
 use Rattle.rules.specs.Decide.{Setting}
 use Rattle.rules.specs.Order.{order}
 use Rattle.rules.specs.Settlement.{written_over, taken_bytes}
-use Rattle.decide.specs.Ready.{Ready, DecidedFrom}
+use Rattle.decide.specs.Ready.{DecidedFrom}
 use Rattle.decide.specs.Sweep.{marked_from}
 
--- What the order is written in: beside the taken bytes of a table that passed, an order place for each of its records.
-pub record Fits (E : Edition) (n : ℕ) (t order taken : List ℕ) : Type 0 where
-  pub ready : Ready E n t taken
-  pub places : length (vertices E t) ≤ length order
-
--- What is there when every round is decided: its decision in its cell, and nothing taken.
-pub record Decided (C : Setting) (E : Edition) (n : ℕ) (t cells order taken : List ℕ) : Type 0 where
-  pub fits : Fits E n t order taken
-  pub in_cells : DecidedFrom C n (vertices E t) 0 cells
-  pub cleared : taken ≡ bytes_over (λ q. 0) (length (vertices E t)) taken
-
--- Places from `count` on are written, the others are as before.
-unfoldable pub places_over : ℕ → List ℕ → List ℕ → List ℕ
-places_over count new old = take count old ++ (new ++ drop (count + length new) old)
+-- What is there when every round of a table that passed is decided: its decision in its cell, nothing taken, and an order place and a taken
+-- byte for each of its records.
+pub record Decided (C : Setting) (n : ℕ) (vs : List Vertex) (cells order taken : List ℕ) : Type 0 where
+  pub in_cells : DecidedFrom C n vs 0 cells
+  pub cleared : taken ≡ bytes_over (λ q. 0) (length vs) taken
+  pub places : length vs ≤ length order
+  pub room : length vs ≤ length taken
 
 abbrev pub written : List ℕ → ℕ → Bool
 written m q = eqb (get_or m q 0) 1
@@ -67,23 +60,23 @@ pub record MarkedDown (step : StepRule) (vs : List Vertex) (a : ℕ) (old : List
   pub lower : low ≤ a
   pub none_below : (q : ℕ) → q < low → get_or new q 0 ≡ 2 → ⊥
 
--- What is due stands from `low` up to a, and there are places for it from `count` on.
-pub record DueTo (a low count : ℕ) (order taken : List ℕ) : Type 0 where
+-- What is due stands from `low` up to a, and there are places for it.
+pub record DueTo (a low : ℕ) (order taken : List ℕ) : Type 0 where
   pub few : a < 4096
   pub within : a < length taken
   pub lower : low ≤ a
   pub none_below : (q : ℕ) → q < low → get_or taken q 0 ≡ 2 → ⊥
-  pub places : count + count_to (due taken) (a + 1) ≤ length order
+  pub places : count_to (due taken) (a + 1) ≤ length order
 
 -- The positions of the history of the leader vertex at a that are not written, rising.
 abbrev pub fresh : StepRule → List Vertex → ℕ → List ℕ → List ℕ
 fresh step vs a m = filter_to (λ q. get_or (history step vs a) q false and not (written m q)) (suc a)
 
 -- One committed leader vertex more: its history is written.
-pub record Led (step : StepRule) (vs : List Vertex) (a count : ℕ) (order taken : List ℕ) (count' : ℕ) (order' taken' : List ℕ) : Type 0 where
-  pub places : order' ≡ places_over count (fresh step vs a taken) order
+pub record Led (step : StepRule) (vs : List Vertex) (a : ℕ) (order taken : List ℕ) (count : ℕ) (order' taken' : List ℕ) : Type 0 where
+  pub places : order' ≡ written_over (fresh step vs a taken) order
   pub bytes : taken' ≡ bytes_over (λ q. bit (written taken q or get_or (history step vs a) q false)) (length vs) taken
-  pub counted : count' ≡ count + length (fresh step vs a taken)
+  pub counted : count ≡ length (fresh step vs a taken)
 
 -- The whole order is written: in its places, in the taken bytes, and counted.
 pub record Ordered (C : Setting) (n : ℕ) (vs : List Vertex) (o m : List ℕ) (count : ℕ) (o' m' : List ℕ) : Type 0 where

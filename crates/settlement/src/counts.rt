@@ -1,75 +1,51 @@
 // The counts of a settled table.
-ghost use Rattle.std.specs.Prelude.{◌≡◌, ◌+◌, ◌-◌, ◌<◌, ◌≤◌, eqb, length, get_or};
-ghost use Rattle.folds.specs.Folds.{bit, first_to, count_to, tabulate};
-ghost use Rattle.rules.specs.Record.{first};
+ghost use Rattle.std.specs.Prelude.{◌≡◌, ◌+◌, ◌<◌, eqb, length, get_or};
+ghost use Rattle.folds.specs.Folds.{first_to, tabulate};
 ghost use Rattle.rules.specs.Settlement.{equivocates, equivocators};
 ghost use Rattle.settlement.specs.Twins.{side};
-ghost use Rattle.decide.specs.Ready.{vertices_of, records_of, Sound};
+ghost use Rattle.decide.specs.Ready.{vertices_of, records_of};
 
-// The first slot whose cell is 0, counted from 1; past the last if there is none.
-pub(crate) fn first_undecided(cells: &[u32], top: usize) -> usize
-    requires { top ≤ length cells.now }
-    ensures { result ≡ 1 + first_to (λ t. eqb (get_or cells.now t 0) 0) top }
+use decide::passed::Passed;
+use stops::Cell;
+
+// The first slot whose cell says that it is undecided, counted from 1; past the last if there is none.
+pub(crate) fn first_undecided(cells: &[u32]) -> usize
+    ensures { result ≡ 1 + first_to (λ t. eqb (get_or cells.now t 0) 0) (length cells.now) }
 {
-    let mut t: usize = 0;
-    while t < top {
-        if cells[t] == 0 {
-            return 1 + t;
-        }
-        t += 1;
-    }
-    1 + top
+    1 + cells
+        .iter()
+        .position(|c| Cell::from(*c) == Cell::Undecided)
+        .unwrap_or(cells.len())
 }
 
-// The records at p and after it are of one author and one round.
-fn twins(table: &[u8], p: usize) -> bool
-    requires { p + 1 < records_of table.now }
-    ensures { result ≡ side (vertices_of table.now) p }
+// Whether the record at p and the one after it are of one author and one round.
+#[tactic(auto, using(crate::proofs::Counting::sides))]
+fn twins(t: Passed, p: usize) -> bool
+    requires { p + 1 < records_of t.table.now }
+    ensures { result ≡ side (vertices_of t.entry.table.now) p }
 {
-    let x = record::name_at(table, p);
-    let y = record::name_at(table, p + 1);
-    if x.round != y.round {
-        return false;
-    }
-    x.author == y.author
+    let x = record::name_at(t.table, p);
+    let y = record::name_at(t.table, p + 1);
+    (x.round, x.author) == (y.round, y.author)
 }
 
-// 1 for each author that has two records in some one round. Names rise, so two such records stand side by side.
-fn split_authors(n: u8, table: &[u8]) -> [u8; 31]
-    requires { Sound first n table.now }
-    ensures { result ≡ tabulate (λ a. bit (equivocates (vertices_of table.now) a)) 31 }
+// Tells for each author whether it has two records in some one round. Names rise, so two such records stand side by side.
+fn split_authors(t: Passed) -> [bool; 31]
+    ensures { result ≡ tabulate (λ a. equivocates (vertices_of t.entry.table.now) a) 31 }
 {
-    let mut split = [0u8; 31];
-    let k = record::records_of(table);
-    let mut p: usize = 1;
-    while p < k {
-        if twins(table, p - 1) {
-            let x = record::name_at(table, p);
-            split[x.author as usize] = 1;
+    let mut split = [false; 31];
+    for p in 1..record::records_of(t.table) {
+        if twins(t, p - 1) {
+            let x = record::name_at(t.table, p);
+            split[x.author as usize] = true;
         }
-        p += 1;
     }
     split
 }
 
-fn count_ones(split: [u8; 31], n: usize) -> usize
-    requires { n ≤ 31 }
-    ensures { result ≡ count_to (λ a. eqb (get_or split a 0) 1) n }
+pub(crate) fn equivocators_of(t: Passed) -> usize
+    ensures { result ≡ equivocators t.entry.n (vertices_of t.entry.table.now) }
 {
-    let mut c: usize = 0;
-    let mut a: usize = 0;
-    while a < n {
-        if split[a] == 1 {
-            c += 1;
-        }
-        a += 1;
-    }
-    c
-}
-
-pub(crate) fn equivocators_of(n: u8, table: &[u8]) -> usize
-    requires { Sound first n table.now }
-    ensures { result ≡ equivocators n (vertices_of table.now) }
-{
-    count_ones(split_authors(n, table), n as usize)
+    let split = split_authors(t);
+    split[..t.n as usize].iter().filter(|x| **x).count()
 }

@@ -8,4 +8,4 @@ use Rattle.table.proofs.check.Kinds as check_kinds
 use Rattle.table.proofs.check.Reads as check
 
 pub check_unique : Only 1 check_kinds.ps check_kinds.r (λ κs x e y f. x ≡ y) check.Post
-check_unique κs a x y e f p q = refusals.check_unique x y (p ∙ sym q)
+check_unique κs a x y e f p q = refusals.tells_unique x y (p ∙ sym q)

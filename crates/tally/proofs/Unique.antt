@@ -6,19 +6,9 @@ use Rattle.tally.proofs.quorum_of.Kinds as quorum_of_kinds
 use Rattle.tally.proofs.quorum_of.Reads as quorum_of
 use Rattle.tally.proofs.enough_of.Kinds as enough_of_kinds
 use Rattle.tally.proofs.enough_of.Reads as enough_of
-use Rattle.tally.proofs.smaller.Kinds as smaller_kinds
-use Rattle.tally.proofs.smaller.Reads as smaller
-use Rattle.tally.proofs.once.Kinds as once_kinds
-use Rattle.tally.proofs.once.Reads as once
 
 pub quorum_of_unique : Only 0 quorum_of_kinds.ps quorum_of_kinds.r (λ κs x e y f. x ≡ y) quorum_of.Post
 quorum_of_unique κs a x y e f p q = p ∙ sym q
 
 pub enough_of_unique : Only 0 enough_of_kinds.ps enough_of_kinds.r (λ κs x e y f. x ≡ y) enough_of.Post
 enough_of_unique κs a x y e f p q = p ∙ sym q
-
-pub once_unique : Only 0 once_kinds.ps once_kinds.r (λ κs x e y f. x ≡ y) once.Post
-once_unique κs a x y e f p q = p ∙ sym q
-
-pub smaller_unique : Only 0 smaller_kinds.ps smaller_kinds.r (λ κs x e y f. x ≡ y) smaller.Post
-smaller_unique κs a x y e f p q = p ∙ sym q

@@ -3,22 +3,37 @@
 // lent to each; then n, then the table.
 #![tactic(auto)]
 
-ghost use Rattle.std.specs.Prelude.{◌≡◌, ◌≤◌, length};
-ghost use Rattle.io.specs.Counts.{IsPrefixLen};
+ghost use Rattle.std.specs.Prelude.{◌≤◌};
 
-use rules::{Checked, LookupAnswer, Name, Refusal, Settlement};
+use rules::{Name, Refusal, Settlement};
+use std::array;
 use std::env::{Env, FillError};
+use std::fmt::Display;
 use std::fs::File;
-use std::io::{Error, ErrorKind, Print, Read, Result};
+use std::io::{Error, ErrorKind, Print};
+use std::os::fd::AsRawFd;
 
-// The check is question 0.
-const LOOKUP: u8 = 1;
+// What a file asks for.
+enum Question {
+    Check,
+    Lookup,
+    // The check, and the check without the last byte.
+    Twice,
+    // The check, and the settlement with what is lent in several lengths.
+    Settle,
+}
 
-// The check, and the check without the last byte.
-const TWICE: u8 = 2;
-
-// The check, and the settlement with what is lent in several lengths.
-const SETTLE: u8 = 3;
+// Every other byte asks for the check.
+impl From<u8> for Question {
+    fn from(byte: u8) -> Question {
+        match byte {
+            1 => Question::Lookup,
+            2 => Question::Twice,
+            3 => Question::Settle,
+            _ => Question::Check,
+        }
+    }
+}
 
 // How many cells, order places and taken bytes are lent.
 #[derive(Clone, Copy)]
@@ -28,66 +43,24 @@ struct Lent {
     taken: usize,
 }
 
-// The same number in places that follow each other.
-#[derive(Clone, Copy)]
-struct Run {
-    number: u32,
-    times: usize,
-}
+// 4,097 records and what stands around them fit, and all that is printed of them. `array::repeat` makes such a buffer, since a proof would
+// count the places of an array expression.
+const BUFFER: usize = 566000;
 
-// 4,097 records and what stands around them fit, and all that is printed of them. The contract gives only the length, so that no proof has
-// the contents before it.
-fn buffer() -> [u8; 566000]
-    ensures { 566000 ≡ length result }
-{
-    [0; 566000]
-}
+// More cells, order places and taken bytes than any table needs.
+const PLACES: usize = 5000;
 
-// Cells or order places before a settlement, more than any table needs: no settlement writes this number. Only the length is told here too.
-fn places() -> [u32; 5000]
-    ensures { 5000 ≡ length result }
-{
-    [9999; 5000]
-}
-
-// Taken bytes before a settlement: no settlement leaves this number.
-fn taken_bytes() -> [u8; 5000]
-    ensures { 5000 ≡ length result }
-{
-    [9; 5000]
-}
-
-// The bytes from byte i on, and none from the end on.
-fn rest(b: &[u8], i: usize) -> &[u8] {
-    if i < b.len() {
-        return &b[i..];
-    }
-    &b[b.len()..]
-}
-
-// All but the last byte, or nothing.
-fn shortened(b: &[u8]) -> &[u8] {
-    if 0 < b.len() {
-        return &b[0..b.len() - 1];
-    }
-    b
-}
-
-// Nothing tells whether it is written, and what follows is said all the same.
+// Nothing tells whether it is written, and what follows is said all the same: so a line is said in parts, of which a `println!` would leave
+// out all where it could not write one.
 fn say<P: Print>(rt: &P, text: &[u8]) {
-    match rt.write_all(text) {
-        Ok(()) => {}
-        Err(_) => {}
-    }
+    let _ = rt.write_all(text);
 }
 
-fn say_number<P: Print>(rt: &P, n: u64) {
-    match rt.print(n) {
-        Ok(()) => {}
-        Err(_) => {}
-    }
+fn say_number<P: Print, N: Display + Drop>(rt: &P, n: N) {
+    let _ = rt.print(n);
 }
 
+// As `say_vertex` but for the line that is asked: a closure for it would bring a `requires`.
 fn say_refused<P: Print>(rt: &P, r: Refusal) {
     let mut line = [0u8; 112];
     let k = lines::line_refused(r, &mut line);
@@ -100,28 +73,23 @@ fn say_vertex<P: Print>(rt: &P, x: Name) {
     say(rt, &line[..k]);
 }
 
-fn say_check<P: Print>(rt: &P, n: u8, table: &[u8]) {
-    let c = table::check(n, table);
-    match c {
-        Checked::Passed => say(rt, b"passed\n"),
-        Checked::Refused(r) => say_refused(rt, r),
+fn say_answered<P: Print>(rt: &P, answer: Result<(), Refusal>, otherwise: &[u8]) {
+    match answer {
+        Ok(()) => say(rt, otherwise),
+        Err(r) => say_refused(rt, r),
     }
 }
 
-fn say_found<P: Print>(rt: &P, n: u8, table: &[u8], x: Name) {
-    let a = lookup::lookup_answer(n, table, x.round, x.author, x.mark);
-    match a {
-        LookupAnswer::Found => say(rt, b"found\n"),
-        LookupAnswer::Refused(r) => say_refused(rt, r),
-    }
+fn say_check<P: Print>(rt: &P, n: u8, table: &[u8]) {
+    say_answered(rt, table::check(n, table), b"passed\n");
 }
 
 // The length of the part that is handed back, and the name in it: a neighbour's bytes would show.
 fn say_part<P: Print>(rt: &P, part: &[u8]) {
     say(rt, b"part ");
-    say_number(rt, part.len() as u64);
+    say_number(rt, part.len());
     say(rt, b"\n");
-    if 0 < part.len() {
+    if !part.is_empty() {
         say_vertex(rt, record::name_of(part));
     }
 }
@@ -133,69 +101,35 @@ fn say_lookup<P: Print>(rt: &P, input: &[u8]) {
         mark: numbers::u32_at(input, 6),
     };
     let n = numbers::byte_at(input, 10);
-    let table = rest(input, 11);
-    say_found(rt, n, table, x);
+    let table = input.get(11..).unwrap_or(&[]);
+    let answer = lookup::lookup_answer(n, table, x.round, x.author, x.mark);
+    say_answered(rt, answer, b"found\n");
     say_part(rt, lookup::lookup(n, table, x.round, x.author, x.mark));
 }
 
-// A number and how often it stands there in a row; nothing if it doesn't.
-fn say_run<P: Print>(rt: &P, r: Run) {
-    if r.times == 0 {
-        return;
+// A number, and how often it stands there in a row if it is more than once.
+fn say_run<P: Print, N: Display + Copy>(rt: &P, run: &[N]) {
+    if let Some(number) = run.first() {
+        say(rt, b" ");
+        say_number(rt, *number);
     }
-    say(rt, b" ");
-    say_number(rt, r.number as u64);
-    if 1 < r.times {
+    if 1 < run.len() {
         say(rt, b"*");
-        say_number(rt, r.times as u64);
+        say_number(rt, run.len());
     }
 }
 
-// The run with one more number, or a new one, and the old one is said. No buffer is so long that the count would wrap.
-fn said_up_to<P: Print>(rt: &P, r: Run, number: u32) -> Run {
-    if number == r.number {
-        return Run {
-            number,
-            times: r.times.wrapping_add(1),
-        };
+// All cells, order places or taken bytes, what was kept too.
+fn say_all<P: Print, N: Display + Copy + PartialEq>(rt: &P, b: &[N]) {
+    for run in b.chunk_by(|x, y| x == y) {
+        say_run(rt, run);
     }
-    say_run(rt, r);
-    Run { number, times: 1 }
-}
-
-// All cells or all order places, what was kept too.
-fn say_places<P: Print>(rt: &P, b: &[u32]) {
-    let mut r = Run {
-        number: 0,
-        times: 0,
-    };
-    let mut i: usize = 0;
-    while i < b.len() {
-        r = said_up_to(rt, r, b[i]);
-        i += 1;
-    }
-    say_run(rt, r);
-    say(rt, b"\n");
-}
-
-// The same of taken bytes.
-fn say_taken<P: Print>(rt: &P, b: &[u8]) {
-    let mut r = Run {
-        number: 0,
-        times: 0,
-    };
-    let mut i: usize = 0;
-    while i < b.len() {
-        r = said_up_to(rt, r, numbers::byte_at(b, i) as u32);
-        i += 1;
-    }
-    say_run(rt, r);
     say(rt, b"\n");
 }
 
 // All that the program of document 01 would print.
 fn say_page<P: Print>(rt: &P, s: Settlement, table: &[u8], cells: &[u32], order: &[u32]) {
-    let mut out = buffer();
+    let mut out: [u8; BUFFER] = array::repeat(0);
     let k = page::output_page(s, table, cells, order, &mut out);
     say(rt, &out[..k]);
 }
@@ -212,51 +146,26 @@ fn say_settled<P: Print>(
     let s = settlement::settle(n, table, cells, order, taken);
     say_page(rt, s, table, cells, order);
     say(rt, b"cells");
-    say_places(rt, cells);
+    say_all(rt, cells);
     say(rt, b"order");
-    say_places(rt, order);
+    say_all(rt, order);
     say(rt, b"taken");
-    say_taken(rt, taken);
+    say_all(rt, taken);
 }
 
-// The lesser of two lengths.
-fn at_most(k: usize, most: usize) -> usize
-    ensures { result ≤ most }
-{
-    if k < most {
-        return k;
-    }
-    most
-}
-
-// The same with as much of the buffers as is lent.
-fn say_settled_in<P: Print>(
-    rt: &P,
-    n: u8,
-    table: &[u8],
-    lent: Lent,
-    cells: &mut [u32],
-    order: &mut [u32],
-    taken: &mut [u8],
-) {
-    let c = at_most(lent.cells, cells.len());
-    let o = at_most(lent.order, order.len());
-    let t = at_most(lent.taken, taken.len());
+// The same with as much as is lent. No settlement writes the numbers that stand there before.
+fn say_settlement<P: Print>(rt: &P, n: u8, table: &[u8], lent: Lent) {
+    let mut cells = [9999; PLACES];
+    let mut order = [9999; PLACES];
+    let mut taken = [9; PLACES];
     say_settled(
         rt,
         n,
         table,
-        &mut cells[0..c],
-        &mut order[0..o],
-        &mut taken[0..t],
+        &mut cells[..lent.cells.min(PLACES)],
+        &mut order[..lent.order.min(PLACES)],
+        &mut taken[..lent.taken.min(PLACES)],
     );
-}
-
-fn say_settlement<P: Print>(rt: &P, n: u8, table: &[u8], lent: Lent) {
-    let mut cells = places();
-    let mut order = places();
-    let mut taken = taken_bytes();
-    say_settled_in(rt, n, table, lent, &mut cells, &mut order, &mut taken);
 }
 
 // How much is lent, from byte i on.
@@ -274,74 +183,47 @@ fn lent_at(input: &[u8], i: usize) -> Lent
 fn say_settlements<P: Print>(rt: &P, input: &[u8]) {
     let count = numbers::byte_at(input, 1) as usize;
     let n = numbers::byte_at(input, 2 + 6 * count);
-    let table = rest(input, 3 + 6 * count);
+    let table = input.get(3 + 6 * count..).unwrap_or(&[]);
     say_check(rt, n, table);
-    let mut i: usize = 0;
-    while i < count {
+    for i in 0..count {
         say_settlement(rt, n, table, lent_at(input, 2 + 6 * i));
-        i += 1;
     }
 }
 
 fn say_answer<P: Print>(rt: &P, input: &[u8]) {
-    let question = numbers::byte_at(input, 0);
-    if question == LOOKUP {
-        say_lookup(rt, input);
-        return;
-    }
-    if question == SETTLE {
-        say_settlements(rt, input);
-        return;
-    }
     let n = numbers::byte_at(input, 1);
-    let table = rest(input, 2);
-    say_check(rt, n, table);
-    if question == TWICE {
-        say_check(rt, n, shortened(table));
-    }
-}
-
-// Reads until the buffer is full, the file ends or a read fails, and says how many bytes came.
-fn read_full<R: Read>(from: &mut R, buf: &mut [u8]) -> usize
-    ensures { IsPrefixLen result buf.new }
-{
-    let mut done: usize = 0;
-    while done < buf.len() {
-        let more = from.read(&mut buf[done..]).unwrap_or(0);
-        if more == 0 {
-            return done;
+    let table = input.get(2..).unwrap_or(&[]);
+    match Question::from(numbers::byte_at(input, 0)) {
+        Question::Check => say_check(rt, n, table),
+        Question::Lookup => say_lookup(rt, input),
+        Question::Twice => {
+            say_check(rt, n, table);
+            say_check(rt, n, &table[..table.len().saturating_sub(1)]);
         }
-        done += more;
+        Question::Settle => say_settlements(rt, input),
     }
-    done
 }
 
 // What cannot be opened is said on standard error, and the next file has its turn.
 fn complain<P: Print>(to: &P, path: &[u8], why: Error) {
     say(to, path);
     say(to, b": ");
-    match to.println(why) {
-        Ok(()) => {}
-        Err(_) => {}
-    }
+    let _ = to.println(why);
 }
 
 // A path that is no text is that of no file.
-fn opened(rt: &HostRuntime, path: &[u8]) -> Result<File> {
-    match str::from_utf8(path) {
-        Ok(name) => File::open(rt, name),
-        Err(_) => Err(Error::from(ErrorKind::NotFound)),
-    }
+fn opened(rt: &HostRuntime, path: &[u8]) -> std::io::Result<File> {
+    let name = str::from_utf8(path).map_err(|_| ErrorKind::NotFound)?;
+    File::open(rt, name)
 }
 
 fn one(rt: &HostRuntime, path: &[u8]) {
     say(rt, path);
     say(rt, b"\n");
     match opened(rt, path) {
-        Ok(f) => {
-            let mut file = f;
-            let mut input = buffer();
-            let n = read_full(&mut file, &mut input);
+        Ok(file) => {
+            let mut input: [u8; BUFFER] = array::repeat(0);
+            let n = io::read_full(file.as_raw_fd(), &mut input);
             say_answer(rt, &input[..n]);
         }
         Err(why) => complain(&rt.stderr(), path, why),

@@ -5,9 +5,9 @@ use Rattle.page.proofs.Pages.{page_none, page_next, page_room}
 use Rattle.page.proofs.output_page.Goals as goal
 
 pub loop-i-init : goal.loop-i-init
-loop-i-init c = record { page = page_none; room = omega arith; within = omega arith }
+loop-i-init c = record { page = page_none; room = omega arith }
 
 pub loop-i-preserved : goal.loop-i-preserved
 loop-i-preserved c =
     let p = page_next c.loop-i.invariant.page c.output_line-done.ensures in
-    record { page = p; room = page_room p; within = omega arith }
+    record { page = p; room = page_room p }

@@ -30,10 +30,7 @@ turn t count round v i mark r r' l e found none s = by_test (eqb mark 0) (λ b. 
         rw (found n, e) (filled_next _ _ i r _ l (rw (ne_eqb _ _ given) refl) s)
 
 pub loop-i-init : goal.loop-i-init
-loop-i-init c = record {
-  within = omega arith;
-  filled = filled_start _ _ _ (length-replicate {A = ℕ} 31 c.args.count) (λ j l. get_or-replicate 31 j c.args.count 0 l);
-}
+loop-i-init c = filled_start _ _ _ (length-replicate {A = ℕ} 31 c.args.count) (λ j l. get_or-replicate 31 j c.args.count 0 l)
 
 -- no place is past `count`
 pub overflow_cast-places : goal.overflow_cast-places
@@ -45,22 +42,20 @@ overflow_cast-places c =
 pub loop-i-preserved : goal.loop-i-preserved
 loop-i-preserved c =
     let v : Vertex = decode first (record_at first c.args.table.now c.args.p) in
-    let low : c.loop-i.i < 31 = omega (arith, c.smaller-k.ensures) in
+    let low : c.loop-i.i < 31 = omega (arith, c.min-i-end.ensures) in
     let read : c.entry_of-mark.result ≡ entry v c.loop-i.i = c.entry_of-mark.ensures ∙ ap (λ b. entry (decode first b) c.loop-i.i) c.part-b.ensures.bytes in
-    record {
-      within = omega arith;
-      filled = turn c.args.table.now c.args.count c.round_before-round.result v c.loop-i.i c.entry_of-mark.result c.loop-i.places _ low read
-          (grind arith) (grind arith) c.loop-i.invariant.filled;
-    }
+    turn c.args.table.now c.args.count c.saturating_sub-round.result v c.loop-i.i c.entry_of-mark.result c.loop-i.places _ low read
+    (grind arith) (grind arith) c.loop-i.invariant
 
 pub returns : goal.returns
 unfolding places_of places_among
 returns c =
     let v : Vertex = decode first (record_at first c.args.table.now c.args.p) in
-    let e : c.loop-i.i ≡ min c.args.n 31 = omega (arith, c.smaller-k.ensures) in
+    let e : c.loop-i.i ≡ min c.args.n 31 = omega (arith, c.min-i-end.ensures) in
     let name : c.name_of-x.result ≡ name_of v = c.name_of-x.ensures ∙ ap (λ b. name_of (decode first b)) c.part-b.ensures.bytes in
-    let round : c.round_before-round.result ≡ pred v.round = c.round_before-round.ensures ∙ ap (λ (y : Name). pred y.round) name in
-    let place : ℕ → ℕ = λ j. place_among c.args.table.now c.args.count (named c.round_before-round.result j (entry v j)) in
+    let back : c.saturating_sub-round.result ≡ pred c.name_of-x.result.round = omega (arith, c.saturating_sub-round.ensures) in
+    let round : c.saturating_sub-round.result ≡ pred v.round = back ∙ ap (λ (y : Name). pred y.round) name in
+    let place : ℕ → ℕ = λ j. place_among c.args.table.now c.args.count (named c.saturating_sub-round.result j (entry v j)) in
     rw (← round)
     (filled_end place (λ j. c.args.count) _ c.loop-i.i c.loop-i.places (λ j h. ap (λ y. cond y (place j) c.args.count) (first_few c.args.n c.loop-i.i j e h))
-    c.loop-i.invariant.filled)
+    c.loop-i.invariant)

@@ -1,11 +1,8 @@
--- `rows::filled`: c references stand among the first i entries. The measure is the entries that are left.
+-- `rows::filled`: c references stand among the entries so far.
 -- Assumes nothing.
-use Rattle.std.proofs.Common.{◌≡◌, ◌-◌, ◌≤◌}
+use Rattle.std.proofs.Common.{◌≡◌, ◌≤◌}
 use Rattle.rows.proofs.Entries.{filled_to}
 use Rattle.rows.proofs.filled.Given as goal
 
-abbrev pub invariant-loop-i : goal.invariant-loop-i
-invariant-loop-i l = (l.i ≤ l.k) × (l.c ≤ l.i) × (l.c ≡ filled_to l.refs l.i)
-
-abbrev pub decreases-loop-i : goal.decreases-loop-i
-decreases-loop-i l = l.k - l.i
+abbrev pub invariant-loop-m : goal.invariant-loop-m
+invariant-loop-m l = (l.c ≤ l.m-index) × (l.c ≡ filled_to l.m-items l.m-index)

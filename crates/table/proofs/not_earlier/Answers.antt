@@ -2,15 +2,15 @@
 -- Assumes nothing.
 use Rattle.std.proofs.Common.{◌≡◌, ◌+◌, ◌-◌, ◌/◌, ◌<◌, true, false, refl, sym, ◌∙◌, le_refl, arith}
 use Rattle.folds.proofs.Laws.{any_start, any_next}
-use Rattle.rules.specs.Record.{entry, same_name, below, named}
+use Rattle.rules.specs.Record.{entry, same_name, named}
 use Rattle.rules.proofs.Names.{entry_named}
+use Rattle.names.proofs.Names.{cmp_less, cmp_equal, cmp_greater}
 use Rattle.search.specs.Search.{name_at}
 use Rattle.search.proofs.Names.{name_at_lem}
-use Rattle.search.proofs.Search.{raised_is}
-use Rattle.search.proofs.Rise.{searched_from, searched_turn}
+use Rattle.search.proofs.Rise.{searched_from, searched_up, searched_down}
 use Rattle.table.proofs.Earlier.{rise, AllLower, lower_start, lower_next, lower_found, missing, missing_empty, none_missing, some_missing, not_missing}
 use Rattle.table.proofs.not_earlier.Goals as goal
-use Rattle.table.proofs.not_earlier.Goals.{then-mark-ne0+else-hi-lo+else-all-m+then-same, else-mark-ne0}
+use Rattle.table.proofs.not_earlier.Goals.{then-mark-ne0+else-hi-lo+else-all-m+in-Equal, else-mark-ne0}
 
 pub entries-init : goal.entries-init
 entries-init c = record { within = omega arith; none = any_start _; lower = lower_start _ _ _ }
@@ -20,20 +20,27 @@ loop-hi-init c =
     let P = c.entries.invariant.lower in
     searched_from _ _ _ _ P.within (λ j l. P.lower j l _ _ (le_refl _))
 
+pub loop-hi-preserved-in-Less : goal.loop-hi-preserved-in-Less
+loop-hi-preserved-in-Less c =
+    let t = c.args.table.now in
+    let v = c.args.v in
+    let x = named (v.round - 1) c.entries.i (entry v c.entries.i) in
+    let m = c.loop-hi.lo + (c.loop-hi.hi - c.loop-hi.lo) / 2 in
+    let read : c.name_at-y.result ≡ name_at t m = c.name_at-y.ensures ∙ name_at_lem t m (omega arith) in
+    let what = cmp_less c.name_at-y.result x (sym c.cmp.ensures ∙ c.in-Less.is) in
+    searched_up t c.args.p x (rise c.args.n t c.args.p v c.requires) c.loop-hi.lo c.loop-hi.hi m refl (omega arith) c.loop-hi.invariant
+    (rw (← read) what.0) (rw (← read) what.1)
+
 pub loop-hi-preserved : goal.loop-hi-preserved
 loop-hi-preserved c =
     let t = c.args.table.now in
     let v = c.args.v in
     let x = named (v.round - 1) c.entries.i (entry v c.entries.i) in
-    let lo = c.loop-hi.lo in
-    let hi = c.loop-hi.hi in
-    let m = lo + (hi - lo) / 2 in
+    let m = c.loop-hi.lo + (c.loop-hi.hi - c.loop-hi.lo) / 2 in
     let read : c.name_at-y.result ≡ name_at t m = c.name_at-y.ensures ∙ name_at_lem t m (omega arith) in
-    let other : same_name (name_at t m) x ≡ false = rw (← read, ← c.same.ensures) c.if-same.false in
-    let up = raised_is c.below-held.result lo m _ c.raised-lo.ensures (omega arith) in
-    let held : c.below-held.result ≡ below (name_at t m) x = rw (← read) c.below-held.ensures in
-    searched_turn t c.args.p x (rise c.args.n t c.args.p v c.requires) lo hi m refl (omega arith) c.loop-hi.invariant other
-    c.below-held.result _ _ held up c.lowered-hi.ensures
+    let what = cmp_greater c.name_at-y.result x (sym c.cmp.ensures ∙ c.in-Greater.is) in
+    searched_down t c.args.p x (rise c.args.n t c.args.p v c.requires) c.loop-hi.lo c.loop-hi.hi m refl (omega arith) c.loop-hi.invariant
+    (rw (← read) what.0) (rw (← read) what.1)
 
 pub entries-preserved : goal.entries-preserved
 entries-preserved c =
@@ -43,13 +50,13 @@ entries-preserved c =
     let v = c.args.v in
     let one : (missing t p v i ≡ false) × AllLower t p v (i + 1) c.if-mark-ne0.from =
     elim c.if-mark-ne0.branch [
-      | then-mark-ne0+else-hi-lo+else-all-m+then-same w ↦
+      | then-mark-ne0+else-hi-lo+else-all-m+in-Equal w ↦
           let mark = entry v i in
           let x = named (v.round - 1) i mark in
           let m = w.loop-hi.lo + (w.loop-hi.hi - w.loop-hi.lo) / 2 in
           let low : m < p = omega arith in
           let read : w.name_at-y.result ≡ name_at t m = w.name_at-y.ensures ∙ name_at_lem t m (omega arith) in
-          let found : same_name (name_at t m) x ≡ true = rw (← read, ← w.same.ensures) w.if-same.true in
+          let found : same_name (name_at t m) x ≡ true = rw (← read) (cmp_equal w.name_at-y.result x (sym w.cmp.ensures ∙ w.in-Equal.is)) in
           let past : c.if-mark-ne0.from ≡ m + 1 = w.from-is in
           let rises = rise c.args.n t p v c.requires in (
             not_missing c.args.n t p v c.requires i x (entry_named v i) w.if-mark-ne0.true m low found,

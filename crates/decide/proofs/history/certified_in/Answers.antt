@@ -4,50 +4,34 @@ use Rattle.std.proofs.Common.{◌≡◌, ℕ, ◌+◌, ◌≤◌, ◌<◌, min, 
 use borrow.Author.Tests.{ltb-true, ltb-false}
 use Rattle.folds.proofs.Tests.{by_test}
 use Rattle.rules.specs.declared.Vertex.{Vertex}
-use Rattle.rules.specs.Record.{first, vertices}
+use Rattle.rules.specs.Record.{first}
 use Rattle.rules.specs.Support.{references}
 use Rattle.rules.specs.History.{history}
+use Rattle.rules.specs.Decide.{certified_in}
 use Rattle.rules.proofs.Records.{vertices_length}
 use Rattle.rules.proofs.Accepted.{Accepted}
+use Rattle.decide.specs.Ready.{vertices_of}
 use Rattle.decide.specs.Range.{start_of}
 use Rattle.decide.specs.Certify.{certified_at}
 use Rattle.decide.specs.Sweep.{Swept}
-use Rattle.decide.proofs.Ranges.{InRound, start_bound, start_mono, round_holds}
+use Rattle.decide.specs.Cells.{first_in}
+use Rattle.decide.proofs.Ranges.{InRound, start_mono}
 use Rattle.decide.proofs.Sweeps.{bit_yes, bit_no}
 use Rattle.decide.proofs.Members.{told_below, two_up_in, told_start, told_yes, told_no, told_end, told_byte}
 use Rattle.decide.proofs.history.certified_in.Goals as goal
+use Rattle.decide.proofs.history.certified_in.Goals.{In-loop-w, After-loop-w}
 
 pub loop-w-init : goal.loop-w-init
 loop-w-init c =
-    let vs = vertices first c.args.table.now in
-    let A = c.requires.ready.sound.accepted in
-    let at_start : c.begin-from.result ≡ start_of vs (c.args.round + 2) 0 = c.begin-from.ensures in
-    let more = start_mono A (c.args.round + 2) 0 (c.args.round + 3) 0 (inl (omega arith)) in
-    let none = told_start A c.args.round c.args.leader c.args.a c.requires.swept.within ∙ vertices_length first c.args.table.now in
-    record {
-      from_on = omega arith;
-      up_to = omega (arith, more, c.begin-end.ensures);
-      first_told = sym (rw at_start none ∙ sym c.records_of-best.ensures);
-    }
+    let none =
+    told_start c.args.t.sound.accepted c.args.s.round c.args.s.leader c.args.a c.requires.swept.within ∙ vertices_length first c.args.t.table.now in
+    sym (rw c.begin-from.ensures none ∙ sym c.records_of-k.ensures)
 
-pub bounds-work-w : goal.bounds-work-w
-bounds-work-w c = omega (arith, c.begin-end.ensures, start_bound c.requires.ready.sound.accepted (c.args.round + 3) 0, c.requires.ready.room)
-
-pub certified_at-requires-clause-w_bound : goal.certified_at-requires-clause-w_bound
-certified_at-requires-clause-w_bound c = omega (arith, c.begin-end.ensures, start_bound c.requires.ready.sound.accepted (c.args.round + 3) 0)
-
-pub certified_at-requires-clause-holds_all : goal.certified_at-requires-clause-holds_all
-certified_at-requires-clause-holds_all c =
-    let A = c.requires.ready.sound.accepted in
-    let here =
-    two_up_in A c.args.round c.args.leader c.args.a c.requires.swept.within c.loop-w.w c.loop-w.invariant.from_on
-    (omega (arith, c.begin-end.ensures)) in
-    rw c.begin-from.ensures (round_holds A (c.args.round + 2) c.loop-w.w here)
-
-pub certified_at-requires-clause-w_value : goal.certified_at-requires-clause-w_value
-certified_at-requires-clause-w_value c =
-    (two_up_in c.requires.ready.sound.accepted c.args.round c.args.leader c.args.a c.requires.swept.within c.loop-w.w c.loop-w.invariant.from_on
-    (omega (arith, c.begin-end.ensures))).round
+-- the vertex in hand stands two rounds up
+two_up : (c : In-loop-w) → InRound (vertices_of c.args.t.table.now) (c.args.s.round + 2) c.loop-w.w
+two_up c =
+    two_up_in c.args.t.sound.accepted c.args.s.round c.args.s.leader c.args.a c.requires.swept.within c.loop-w.w
+    (omega (arith, c.begin-from.ensures)) (omega (arith, c.begin-end.ensures))
 
 -- one vertex more: what it certifies counts if its byte tells that it is in the history
 told_next : {n : ℕ} {vs : List Vertex} (A : Accepted n vs) (round leader a done : ℕ) (m : List ℕ) → Swept references vs a done m
@@ -69,18 +53,24 @@ told_next {n} {vs} A round leader a done m S low w here best best' is taken left
 
 pub loop-w-preserved : goal.loop-w-preserved
 loop-w-preserved c =
-    let A = c.requires.ready.sound.accepted in
-    let here =
-    two_up_in A c.args.round c.args.leader c.args.a c.requires.swept.within c.loop-w.w c.loop-w.invariant.from_on
-    (omega (arith, c.begin-end.ensures)) in
-    record {
-      from_on = omega arith;
-      up_to = omega arith;
-      first_told = told_next A c.args.round c.args.leader c.args.a c.args.done c.args.work.now c.requires.swept c.requires.done_bound c.loop-w.w here _ _
-          c.loop-w.invariant.first_told (λ h. grind arith) (λ h. grind arith);
-    }
+    told_next c.args.t.sound.accepted c.args.s.round c.args.s.leader c.args.a c.args.done c.args.work.now c.requires.swept c.requires.done_bound
+    c.loop-w.w (two_up ((goal.at.loop-w-preserved c).In-loop-w)) _ _ c.loop-w.invariant (λ h. grind arith) (λ h. grind arith)
 
-pub returns : goal.returns
-returns c =
-    let e : c.loop-w.w ≡ start_of (vertices first c.args.table.now) (c.args.round + 3) 0 = omega (arith, c.begin-end.ensures) in
-    rw e at c.loop-w.invariant.first_told ∙ told_end c.requires.ready.sound.accepted c.args.round c.args.leader c.args.a c.requires.swept.within
+-- all vertices two rounds up have told
+told : (c : After-loop-w) → c.loop-w.best ≡ first_in (vertices_of c.args.t.table.now) c.args.s.round c.args.s.leader
+    (certified_in c.args.t.n (vertices_of c.args.t.table.now) (history references (vertices_of c.args.t.table.now) c.args.a))
+told c =
+    let A = c.args.t.sound.accepted in
+    let rise = start_mono A (c.args.s.round + 2) 0 (c.args.s.round + 3) 0 (inl (omega arith)) in
+    let e : c.loop-w.w ≡ start_of (vertices_of c.args.t.table.now) (c.args.s.round + 3) 0 = omega (arith, c.begin-end.ensures, c.begin-from.ensures, rise) in
+    rw e at c.loop-w.invariant ∙ told_end A c.args.s.round c.args.s.leader c.args.a c.requires.swept.within
+
+pub returns-then-best-k : goal.returns-then-best-k
+returns-then-best-k c =
+    let is = told ((goal.at.returns-then-best-k c).After-loop-w) in
+    (is, omega (arith, is, c.if-best-k.true, c.records_of-k.ensures, vertices_length first c.args.t.table.now))
+
+pub returns-else-best-k : goal.returns-else-best-k
+returns-else-best-k c =
+    let is = told ((goal.at.returns-else-best-k c).After-loop-w) in
+    omega (arith, is, c.if-best-k.false, c.records_of-k.ensures, vertices_length first c.args.t.table.now)

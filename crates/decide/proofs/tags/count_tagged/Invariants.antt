@@ -1,17 +1,10 @@
--- The loop of `tags::count_tagged`: c of the bytes before q have the tag. The measure is the bytes that are left.
+-- The loop of `tags::count_tagged`: c of the bytes before this one have the tag.
 -- Assumes nothing.
-use Rattle.std.proofs.Common.{◌≡◌, ◌-◌, ◌≤◌}
-use Rattle.folds.specs.Folds.{count_to}
-use Rattle.decide.proofs.Tagging.{tagged_from}
+use Rattle.std.proofs.Common.{◌≡◌, ◌%◌, ◌≤◌, eqb, take, count_by}
 use Rattle.decide.proofs.tags.count_tagged.Given as goal
 
-abbrev pub invariant-loop-q : goal.invariant-loop-q
-invariant-loop-q l = record {
-  from_on : l.from ≤ l.q;
-  up_to : l.q ≤ l.to;
-  small : l.c ≤ l.q;
-  counted : l.c ≡ count_to (tagged_from l.work l.from l.tag) (l.q - l.from);
+abbrev pub invariant-loop-b : goal.invariant-loop-b
+invariant-loop-b l = record {
+  small : l.c ≤ l.b-index;
+  counted : l.c ≡ count_by (λ b. eqb (b % 128) l.tag) (take l.b-index l.bytes);
 }
-
-abbrev pub decreases-loop-q : goal.decreases-loop-q
-decreases-loop-q l = l.to - l.q

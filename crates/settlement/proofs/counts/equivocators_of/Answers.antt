@@ -1,11 +1,12 @@
--- `settlement::counts::equivocators_of` meets its contract: the bytes that are 1 are those of the equivocators.
+-- `settlement::counts::equivocators_of` meets its contract: the flags that are set are those of the equivocators.
 -- Assumes nothing.
-use Rattle.std.proofs.Common.{◌∙◌}
+use Rattle.std.proofs.Common.{◌≡◌, rules}
 use Rattle.decide.specs.Ready.{vertices_of}
-use Rattle.settlement.proofs.Counting.{ones_count}
+use Rattle.rules.specs.Settlement.{equivocators}
+use Rattle.settlement.proofs.Counting.{set_count}
 use Rattle.settlement.proofs.counts.equivocators_of.Goals as goal
 
 pub returns : goal.returns
 returns c =
-    c.count_ones.ensures
-    ∙ ones_count (vertices_of c.args.table.now) c.args.n c.split_authors.result c.requires.accepted.few c.split_authors.ensures
+    let told : c.count.result ≡ equivocators c.args.t.n (vertices_of c.args.t.table.now) = search (rules, set_count) in
+    told

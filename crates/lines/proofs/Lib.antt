@@ -1,4 +1,5 @@
 pub mod Decimal
 pub mod Text
 pub mod Lines
+pub mod Open
 pub mod Unique

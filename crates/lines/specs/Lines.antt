@@ -2,7 +2,7 @@
 -- Assumes nothing.
 use Rattle.std.specs.Prelude.{ℕ, List, [], ◌∷◌, flat_map}
 use Rattle.rules.specs.declared.Name.{Name}
-use Rattle.rules.specs.Program.{bytes_of, decimal, line, line_x, line_s, line_r}
+use Rattle.rules.specs.Program.{bytes_of, decimal, line}
 
 -- `R r word`
 unfoldable pub line_word : ℕ → List ℕ → List ℕ
@@ -27,8 +27,3 @@ line_named x = line (bytes_of "V") (decimal x.round ∷ decimal x.author ∷ dec
 -- Numbers with a space before each.
 abbrev pub spaced : List ℕ → List ℕ
 spaced xs = flat_map (λ x. 32 ∷ decimal x) xs
-
--- One name that opens the definitions of the lines.
-unfoldable pub lines_open : Unit {0}
-unfolding bytes_of line_x line_s line_r line_word line_undecided line_skipped line_committed line_named
-lines_open = tt

@@ -69,7 +69,7 @@ fn line_numbers(letter: &str, numbers: &[u64], out: &mut [u8]) -> usize
 }
 
 // `X number position`
-#[tactic(auto, using(rules::proofs::Refusals::one_value), unfolding(crate::specs::Lines::lines_open))]
+#[tactic(auto, using(rules::proofs::Refusals::one_value), unfolding(crate::proofs::Open::lines_open))]
 pub fn line_refused(r: Refusal, out: &mut [u8]) -> usize
     ensures { Fills (line_x (row_of r).number (row_of r).values) out.old out.new result }
 {
@@ -78,7 +78,7 @@ pub fn line_refused(r: Refusal, out: &mut [u8]) -> usize
 }
 
 // `S records highest-round first-undecided written equivocators`
-#[tactic(auto, unfolding(crate::specs::Lines::lines_open))]
+#[tactic(auto, unfolding(crate::proofs::Open::lines_open))]
 pub fn line_settled(c: Counts, out: &mut [u8]) -> usize
     ensures { Fills (line_s c) out.old out.new result }
 {
@@ -107,7 +107,7 @@ fn line_round(round: u32, word: &str, numbers: &[u64], out: &mut [u8]) -> usize
 }
 
 // `R r undecided`
-#[tactic(auto, unfolding(crate::specs::Lines::lines_open))]
+#[tactic(auto, unfolding(crate::proofs::Open::lines_open))]
 pub fn line_undecided(round: u32, out: &mut [u8]) -> usize
     ensures { Fills (line_undecided round) out.old out.new result }
 {
@@ -115,7 +115,7 @@ pub fn line_undecided(round: u32, out: &mut [u8]) -> usize
 }
 
 // `R r skip`
-#[tactic(auto, unfolding(crate::specs::Lines::lines_open))]
+#[tactic(auto, unfolding(crate::proofs::Open::lines_open))]
 pub fn line_skipped(round: u32, out: &mut [u8]) -> usize
     ensures { Fills (line_skipped round) out.old out.new result }
 {
@@ -123,7 +123,7 @@ pub fn line_skipped(round: u32, out: &mut [u8]) -> usize
 }
 
 // `R r commit author mark`. Three numbers: so its promise says.
-#[tactic(auto, unfolding(crate::specs::Lines::lines_open))]
+#[tactic(auto, unfolding(crate::proofs::Open::lines_open))]
 pub fn line_committed(round: u32, author: u8, mark: u32, out: &mut [u8]) -> usize
     ensures { Fills (line_committed round author mark) out.old out.new result }
 {
@@ -131,7 +131,7 @@ pub fn line_committed(round: u32, author: u8, mark: u32, out: &mut [u8]) -> usiz
 }
 
 // `V round author mark`
-#[tactic(auto, unfolding(crate::specs::Lines::lines_open))]
+#[tactic(auto, unfolding(crate::proofs::Open::lines_open))]
 pub fn line_vertex(x: Name, out: &mut [u8]) -> usize
     ensures { Fills (line_named x) out.old out.new result }
 {

@@ -17,7 +17,7 @@ use rules::{Counts, Settlement};
 use stops::{Cell, cell_at};
 
 // The line of a round, by its cell.
-#[tactic(auto, unfolding(lines::specs::Lines::lines_open))]
+#[tactic(auto, unfolding(lines::proofs::Open::lines_open))]
 fn round_line(table: &[u8], round: u32, cell: Cell, out: &mut [u8]) -> usize
     ensures { Fills (line_r (vertices first table.now) round (says cell)) out.old out.new result }
 {

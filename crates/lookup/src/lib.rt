@@ -42,6 +42,7 @@ pub fn lookup<'a>(n: u8, table: &'a [u8], round: u32, author: u8, mark: u32) -> 
 }
 
 // Whether there is such a record, and if not, why.
+#[tactic(auto, using(crate::proofs::Lookups::stands, crate::proofs::Lookups::nowhere))]
 pub fn lookup_answer(n: u8, table: &[u8], round: u32, author: u8, mark: u32) -> Result<(), Refusal>
     ensures { tells result ≡ lookup_check first n table.now (named round author mark) }
 {

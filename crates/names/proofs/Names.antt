@@ -1,6 +1,6 @@
 -- The order and the equality that are derived for names (round, then author, then mark) are those of the rules.
 -- Assumes nothing.
-use Rattle.std.proofs.Common.{◌≡◌, refl, sym, ◌∙◌, Bool, rules, cond, true, false, not, Less, Equal, Greater}
+use Rattle.std.proofs.Common.{◌≡◌, refl, sym, ◌∙◌, Bool, rules, cond, true, false, not, eqb, eq-eqb, ne_eqb, Less, Equal, Greater}
 use Rattle.std.specs.Ordering.{partial_lt, partial_le}
 use Rattle.folds.specs.Folds.{◌and◌, ◌or◌}
 use Rattle.rules.specs.declared.Name.{Name}
@@ -50,3 +50,17 @@ cmp_equal x y e = equal _ (below x y) (sym (cmp_is x y) ∙ e)
 
 pub cmp_greater : (x y : Name) → cmp-value.it x y ≡ Greater → (same_name x y ≡ false) × (below x y ≡ false)
 cmp_greater x y e = greater _ _ (sym (cmp_is x y) ∙ e)
+
+-- ---- whether two names are the same, part by part
+
+pub same_round : (x y : Name) → (x.round ≡ y.round → ⊥) → same_name x y ≡ false
+unfolding same_name ◌and◌
+same_round x y r = rw (ne_eqb _ _ r)
+
+pub same_author : (x y : Name) → x.round ≡ y.round → (x.author ≡ y.author → ⊥) → same_name x y ≡ false
+unfolding same_name ◌and◌
+same_author x y r a = rw (eq-eqb _ _ r, ne_eqb _ _ a)
+
+pub same_mark : (x y : Name) → x.round ≡ y.round → x.author ≡ y.author → same_name x y ≡ eqb x.mark y.mark
+unfolding same_name ◌and◌
+same_mark x y r a = rw (eq-eqb _ _ r, eq-eqb _ _ a) refl

@@ -4,7 +4,7 @@
 ghost use Rattle.std.specs.Prelude.{◌≡◌, ℕ, ◌+◌, ◌*◌, ◌<◌, get_or};
 ghost use Rattle.rules.specs.Record.{number};
 
-// The number of two bytes: a public call (docs/PROMISES.md), though no crate here asks it.
+// The number of two bytes, the lower one first.
 pub fn join_two(a: u8, b: u8) -> u16
     ensures { result ≡ a + 256 * b }
 {
@@ -39,7 +39,8 @@ fn bytes_at<const N: usize>(b: &[u8], i: usize) -> [u8; N]
 pub fn u16_at(b: &[u8], i: usize) -> u16
     ensures { result ≡ number 2 b.now i }
 {
-    u16::from_le_bytes(bytes_at(b, i))
+    let [low, high]: [u8; 2] = bytes_at(b, i);
+    join_two(low, high)
 }
 
 // The four bytes from byte i on as a number.

@@ -27,7 +27,8 @@ fn place_of(table: &[u8], k: usize, x: Name) -> usize
         if all <= m {
             return lo;
         }
-        if name_at(table, m) < x {
+        let y = name_at(table, m);
+        if y < x {
             lo = m + 1;
         } else {
             hi = m;

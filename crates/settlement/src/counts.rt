@@ -43,6 +43,7 @@ fn split_authors(t: Passed) -> [bool; 31]
     split
 }
 
+#[tactic(auto, using(crate::proofs::Counting::set_count))]
 pub(crate) fn equivocators_of(t: Passed) -> usize
     ensures { result ≡ equivocators t.entry.n (vertices_of t.entry.table.now) }
 {

@@ -2,6 +2,7 @@
 #![tactic(auto)]
 
 ghost use Rattle.std.specs.Prelude.{◌≡◌, true, not, ◌<◌, eqb};
+ghost use Rattle.rules.specs.contracts.NameOrd.TheImpl.{cmp-value};
 ghost use Rattle.rules.specs.Authors.{is_count};
 ghost use Rattle.rules.specs.Record.{first, sum_of, records, vertices};
 ghost use Rattle.rules.specs.Refusals.{refusal_tells, tells, ◌when◌, each_to};
@@ -55,6 +56,13 @@ fn not_above(table: &[u8], p: usize) -> bool
     name_at(table, p) <= name_at(table, p - 1)
 }
 
+// How a name stands to the one that is looked for. By itself, so that an edit of what is compared changes no name that the search's proof cites.
+fn compared(y: Name, x: Name) -> Ordering
+    ensures { result ≡ cmp-value.it y x }
+{
+    y.cmp(&x)
+}
+
 // Whether some entry names no earlier record. Each reference is looked for by halves among the earlier records, whose names rise, and past
 // the reference before it, which has a lower author; the first that stands nowhere leaves both loops
 // (document 01's form: each loop gives its answer where it is left, as no `for` does).
@@ -90,7 +98,7 @@ fn not_earlier(n: u8, table: &[u8], p: usize, v: Vertex) -> bool
                     break 'entries true;
                 }
                 let y = name_at(table, m);
-                match y.cmp(&x) {
+                match compared(y, x) {
                     Ordering::Equal => break m,
                     Ordering::Less => lo = m + 1,
                     Ordering::Greater => hi = m,

@@ -20,7 +20,7 @@ held_is t x y m held b e f l h = rw (← name_at_lem t m l, ← f, ← e) h
 pub loop-lo-preserved-then-lt : goal.loop-lo-preserved-then-lt
 loop-lo-preserved-then-lt c =
     let t = c.args.table.now in
-    let h = held_is t c.args.x _ _ _ _ (c.lt.ensures ∙ lt_is _ _) c.name_at.ensures (omega arith) c.if-lt.true in
+    let h = held_is t c.args.x _ _ _ _ (c.lt.ensures ∙ lt_is _ _) c.name_at-y.ensures (omega arith) c.if-lt.true in
     record {
       ordered = omega arith;
       within = omega arith;
@@ -30,7 +30,7 @@ loop-lo-preserved-then-lt c =
 pub loop-lo-preserved : goal.loop-lo-preserved
 loop-lo-preserved c =
     let t = c.args.table.now in
-    let h = held_is t c.args.x _ _ _ _ (c.lt.ensures ∙ lt_is _ _) c.name_at.ensures (omega arith) c.if-lt.false in
+    let h = held_is t c.args.x _ _ _ _ (c.lt.ensures ∙ lt_is _ _) c.name_at-y.ensures (omega arith) c.if-lt.false in
     record {
       ordered = omega arith;
       within = omega arith;

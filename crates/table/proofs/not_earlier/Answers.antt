@@ -27,7 +27,7 @@ loop-hi-preserved-in-Less c =
     let x = named (v.round - 1) c.entries.i (entry v c.entries.i) in
     let m = c.loop-hi.lo + (c.loop-hi.hi - c.loop-hi.lo) / 2 in
     let read : c.name_at-y.result ≡ name_at t m = c.name_at-y.ensures ∙ name_at_lem t m (omega arith) in
-    let what = cmp_less c.name_at-y.result x (sym c.cmp.ensures ∙ c.in-Less.is) in
+    let what = cmp_less c.name_at-y.result x (sym c.compared.ensures ∙ c.in-Less.is) in
     searched_up t c.args.p x (rise c.args.n t c.args.p v c.requires) c.loop-hi.lo c.loop-hi.hi m refl (omega arith) c.loop-hi.invariant
     (rw (← read) what.0) (rw (← read) what.1)
 
@@ -38,7 +38,7 @@ loop-hi-preserved c =
     let x = named (v.round - 1) c.entries.i (entry v c.entries.i) in
     let m = c.loop-hi.lo + (c.loop-hi.hi - c.loop-hi.lo) / 2 in
     let read : c.name_at-y.result ≡ name_at t m = c.name_at-y.ensures ∙ name_at_lem t m (omega arith) in
-    let what = cmp_greater c.name_at-y.result x (sym c.cmp.ensures ∙ c.in-Greater.is) in
+    let what = cmp_greater c.name_at-y.result x (sym c.compared.ensures ∙ c.in-Greater.is) in
     searched_down t c.args.p x (rise c.args.n t c.args.p v c.requires) c.loop-hi.lo c.loop-hi.hi m refl (omega arith) c.loop-hi.invariant
     (rw (← read) what.0) (rw (← read) what.1)
 
@@ -56,7 +56,7 @@ entries-preserved c =
           let m = w.loop-hi.lo + (w.loop-hi.hi - w.loop-hi.lo) / 2 in
           let low : m < p = omega arith in
           let read : w.name_at-y.result ≡ name_at t m = w.name_at-y.ensures ∙ name_at_lem t m (omega arith) in
-          let found : same_name (name_at t m) x ≡ true = rw (← read) (cmp_equal w.name_at-y.result x (sym w.cmp.ensures ∙ w.in-Equal.is)) in
+          let found : same_name (name_at t m) x ≡ true = rw (← read) (cmp_equal w.name_at-y.result x (sym w.compared.ensures ∙ w.in-Equal.is)) in
           let past : c.if-mark-ne0.from ≡ m + 1 = w.from-is in
           let rises = rise c.args.n t p v c.requires in (
             not_missing c.args.n t p v c.requires i x (entry_named v i) w.if-mark-ne0.true m low found,

@@ -4,6 +4,8 @@
 ghost use Rattle.std.specs.Prelude.{◌≡◌, ℕ, ◌+◌, ◌*◌, ◌<◌, get_or};
 ghost use Rattle.rules.specs.Record.{number};
 
+use std::array::from_fn;
+
 // The number of two bytes, the lower one first.
 pub fn join_two(a: u8, b: u8) -> u16
     ensures { result ≡ a + 256 * b }
@@ -19,7 +21,6 @@ pub fn byte_at(b: &[u8], i: usize) -> u8
 }
 
 // The N bytes from byte i on, zeros past the end.
-#[tactic(auto, using(crate::proofs::Numbers::zeros_after))]
 fn bytes_at<const N: usize>(b: &[u8], i: usize) -> [u8; N]
     ensures { (k : ℕ) → k < N → get_or result k 0 ≡ get_or b.now (i + k) 0 }
 {
@@ -29,9 +30,7 @@ fn bytes_at<const N: usize>(b: &[u8], i: usize) -> [u8; N]
     if let Some(all) = rest.first_chunk() {
         return *all;
     }
-    let mut bytes = [0; N];
-    bytes[..rest.len()].copy_from_slice(rest);
-    bytes
+    from_fn(|k| byte_at(rest, k))
 }
 
 // The two bytes from byte i on as a number.

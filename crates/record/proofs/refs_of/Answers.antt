@@ -2,7 +2,7 @@
 -- Assumes nothing.
 use Rattle.std.proofs.Common.{◌+◌, ◌*◌, rules}
 use Rattle.rules.specs.Record.{number, decode}
-use Rattle.record.proofs.Made.{made}
+use Rattle.numbers.proofs.Made.{made}
 use Rattle.record.proofs.refs_of.Goals as goal
 
 pub returns : goal.returns

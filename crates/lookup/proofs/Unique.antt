@@ -2,7 +2,7 @@
 -- the place in it and the bytes are equal. `Post` is a call's promise as it stands in its contract, so a weaker one would not pass here.
 -- No call changes what it is lent.
 -- Assumes nothing.
-use mathlib.Core.Path.{◌≡◌, sym, ap, ◌∙◌}
+use mathlib.Core.Path.{◌≡◌, sym, ◌∙◌}
 use Rattle.rules.proofs.Only.{Only}
 use Rattle.rules.proofs.Refusals as refusals
 use Rattle.record.specs.Part.{SamePart}
